@@ -1,0 +1,4 @@
+pub mod PairLemmas
+pub mod Pieces
+pub mod PlaceLemmas
+pub mod WholeLemmas

@@ -1,0 +1,5 @@
+use Rattle.edge.proofs.PlaceLemmas.{name_at}
+use Rattle.edge.proofs.memory_drawer.MemoryDrawer.name.Goals as goal
+
+pub returns : goal.returns
+returns c = let inside = rw (← c.self.view_is) at c.requires in rw (← c.self.view_is, c.deref.ensures.value) (name_at _ _ _ _ inside c.index-place.ensures)

@@ -1,0 +1,6 @@
+pub mod Adapters
+pub mod Causes
+pub mod Memory
+pub mod Outside
+pub mod Pairs
+pub mod Places
