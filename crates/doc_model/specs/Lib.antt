@@ -1,0 +1,13 @@
+pub mod FlawName
+pub mod Rows
+pub mod Document
+pub mod Legible
+pub mod Lawful
+pub mod Relations
+pub mod Shut
+pub mod Subtree
+pub mod Strip
+pub mod Shown
+pub mod View
+pub mod Cells
+pub mod Legal
