@@ -1,0 +1,3 @@
+pub mod Words
+pub mod Stays
+pub mod Still

@@ -1,0 +1,16 @@
+//! Laws of the document model: functions without code whose contracts say what holds of the definitions.
+#![tactic(auto)]
+
+mod answers;
+mod lawful_lists;
+mod relations;
+
+pub use answers::{
+    answers_are_exact_on_a_still_table, answers_stay, nothing_follows_an_end,
+    still_tables_do_not_grow,
+};
+pub use lawful_lists::{beginnings_are_lawful, legal_logs_stand_for_lawful_steps};
+pub use relations::{
+    children_are_descendants_one_deeper, extent_bounds_the_subtree, innermost_is_the_last_open,
+    open_rows_are_counted, parent_is_the_greatest_above, shut_is_not_open, shut_stays,
+};
