@@ -1,0 +1,5 @@
+mod Parts
+mod Numerals
+mod Digits
+mod Printed
+mod Quotients
