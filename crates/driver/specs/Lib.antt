@@ -1,0 +1,9 @@
+pub mod Lines
+pub mod Keeping
+pub mod Reading
+pub mod Events
+pub mod Flaws
+pub mod Steps
+pub mod Source
+pub mod Building
+pub mod Top
