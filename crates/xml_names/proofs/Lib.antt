@@ -1,0 +1,4 @@
+pub mod Fixed
+pub mod Indexing
+pub mod Places
+pub mod Views
