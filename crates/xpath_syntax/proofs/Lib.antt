@@ -1,0 +1,7 @@
+mod Front
+mod Covers
+mod Sound
+mod Cuts
+mod Steps
+mod Alone
+mod Layers

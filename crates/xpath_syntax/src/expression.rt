@@ -1,0 +1,130 @@
+//! The trees of expressions (XPath 1.0, 2 and 3). Abbreviations are written out in them.
+
+ghost use Rattle.std.specs.Prelude.{◌≡◌};
+ghost use Rattle.xpath_syntax.specs.declared.expression.Expr.{Expr, roll-Expr};
+ghost use Rattle.xpath_syntax.specs.declared.expression.Expr.TheFolds.{fold-Expr};
+ghost use Rattle.xpath_syntax.specs.declared.expression.Path.{Path, roll-Path};
+ghost use Rattle.xpath_syntax.specs.declared.expression.StepExpr.{StepExpr, roll-StepExpr};
+
+use lists::{Boxed, List};
+
+/// A name as it is written, and what it is bound to, which the parsers leave open.
+#[derive(Debug, Drop, PartialEq, Eq)]
+pub struct NameRef {
+    /// Empty where the name has none.
+    pub prefix: List<u8>,
+    pub local: List<u8>,
+    pub uri: Option<List<u8>>,
+    /// The place of a variable, or that of a key's declaration.
+    pub slot: Option<u32>,
+}
+
+/// What stands between two operands.
+#[derive(Clone, Copy, Debug, PartialEq, Eq)]
+pub enum Op {
+    Or,
+    And,
+    Equal,
+    NotEqual,
+    Less,
+    LessEqual,
+    Greater,
+    GreaterEqual,
+    Add,
+    Subtract,
+    Multiply,
+    Div,
+    Mod,
+    Union,
+}
+
+/// The axis of a step (XPath 1.0, 2.2), as it is written.
+#[derive(Clone, Copy, Debug, PartialEq, Eq)]
+pub enum AxisName {
+    /// The axis self.
+    Itself,
+    Child,
+    Parent,
+    Descendant,
+    DescendantOrSelf,
+    Ancestor,
+    AncestorOrSelf,
+    Following,
+    Preceding,
+    FollowingSibling,
+    PrecedingSibling,
+    Attribute,
+    Namespace,
+}
+
+/// The node test of a step (XPath 1.0, 2.3).
+#[derive(Debug, Drop, PartialEq, Eq)]
+pub enum TestExpr {
+    /// `*`.
+    AnyName,
+    /// `prefix:*`.
+    InPrefix(NameRef),
+    Name(NameRef),
+    /// `node()`.
+    Node,
+    /// `text()`.
+    Text,
+    /// `comment()`.
+    Comment,
+    /// `processing-instruction()`, which may name a target.
+    Instruction(Option<List<u8>>),
+}
+
+/// An expression (XPath 1.0, 3).
+#[cycle(expression)]
+#[derive(Debug, Drop, PartialEq, Eq)]
+pub enum Expr {
+    Binary {
+        op: Op,
+        left: Boxed<Expr>,
+        right: Boxed<Expr>,
+    },
+    /// The unary minus.
+    Minus(Boxed<Expr>),
+    Literal(List<u8>),
+    /// A whole number of magnitude at most 2^53 - 1.
+    Number(i64),
+    Variable(NameRef),
+    /// The call of a function.
+    Call {
+        name: NameRef,
+        args: List<Expr>,
+    },
+    Path(Path),
+    /// A primary with predicates, which a relative path may follow.
+    Filter {
+        primary: Boxed<Expr>,
+        predicates: List<Expr>,
+        tail: Option<Path>,
+    },
+}
+
+/// A location path (XPath 1.0, 2).
+#[cycle(expression)]
+#[derive(Debug, Drop, PartialEq, Eq)]
+pub struct Path {
+    /// Whether it begins at the root.
+    pub absolute: bool,
+    pub parts: List<StepExpr>,
+    /// Whether its nodes may be read one by one; the parsers leave it false.
+    pub streams: bool,
+}
+
+/// A step of a path (XPath 1.0, 2.1).
+#[cycle(expression)]
+#[derive(Debug, Drop, PartialEq, Eq)]
+pub struct StepExpr {
+    pub axis: AxisName,
+    pub test: TestExpr,
+    pub predicates: List<Expr>,
+}
+
+/// A tree is what the fold over expressions, paths and steps makes of its layers again.
+pub fn trees_are_made_of_layers()
+    ensures { (e : Expr) → fold-Expr Expr Path StepExpr roll-Expr roll-Path roll-StepExpr e ≡ e }
+{}
