@@ -1,0 +1,4 @@
+pub mod CutLemmas
+pub mod FeedLemmas
+pub mod MoveLemmas
+pub mod StepLemmas

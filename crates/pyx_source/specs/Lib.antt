@@ -1,0 +1,4 @@
+pub mod Feeds
+pub mod Finding
+pub mod Moving
+pub mod Reading
