@@ -1,0 +1,4 @@
+mod Holding
+mod Lookups
+mod Names
+mod Numbering

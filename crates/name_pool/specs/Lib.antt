@@ -1,0 +1,4 @@
+pub mod Holds
+pub mod Keys
+pub mod Names
+pub mod Numbers
