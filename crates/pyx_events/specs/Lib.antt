@@ -1,0 +1,10 @@
+pub mod Before
+pub mod Nodes
+pub mod Counted
+pub mod Flaw
+pub mod Judged
+pub mod Steps
+pub mod Answer
+pub mod Standing
+pub mod Taken
+pub mod Checking
