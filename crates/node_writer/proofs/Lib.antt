@@ -1,0 +1,10 @@
+pub mod Taken
+pub mod Grown
+pub mod Names
+pub mod Numbering
+pub mod Filling
+pub mod Attributes
+pub mod Stacks
+pub mod Shutting
+pub mod Joining
+pub mod Cases

@@ -1,0 +1,5 @@
+pub mod Taken
+pub mod Filled
+pub mod Filler
+pub mod Stack
+pub mod Stands

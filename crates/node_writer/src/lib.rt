@@ -1,0 +1,11 @@
+//! Nodes written into a table that grows.
+#![tactic(auto)]
+
+mod filler;
+mod open_row;
+mod writer;
+
+pub use writer::NodeWriter;
+
+#[cfg(test)]
+mod tests;
