@@ -8,6 +8,10 @@ pub mod Shut
 pub mod Subtree
 pub mod Strip
 pub mod Shown
+pub mod Values
 pub mod View
+pub mod Answers
+pub mod NodeTests
+pub mod Axes
 pub mod Cells
 pub mod Legal
