@@ -18,3 +18,7 @@ pub mod Still
 pub mod Prevs
 pub mod Visible
 pub mod Moving
+pub mod Rooted
+pub mod Ancestors
+pub mod Known
+pub mod Calls

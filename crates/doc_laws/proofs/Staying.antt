@@ -36,13 +36,13 @@ plain_node : (opened : List ℕ) (row : Row) (attributes : List Row) → CanJoin
 plain_node opened row attributes j = elim j.kind [ inl e ↦ ap is_attribute e | inr t ↦ elim t [ inl e ↦ ap is_attribute e | inr e ↦ ap is_attribute e ] ]
 
 -- the rows that further steps give begin with one that is no attribute
-record Begins (rows : List Row) : Type 0 where
+pub record Begins (rows : List Row) : Type 0 where
   pub row : Row
   pub rest : List Row
   pub is : rows ≡ row ∷ rest
   pub plain : is_attribute row.kind ≡ false
 
-given_begins : (s : Document) (p : List Step) → LawfulFrom s p → (rows_given p ≡ []) ⊎ Begins (rows_given p)
+pub given_begins : (s : Document) (p : List Step) → LawfulFrom s p → (rows_given p ≡ []) ⊎ Begins (rows_given p)
 given_begins s [] l = inl refl
 given_begins s (Node row attributes ∷ p) l = inr (record { row = row; rest = attributes ++ rows_given p; is = refl; plain = plain_node s.opened row attributes l.1 })
 given_begins s (Shut ∷ p) l = given_begins (after s Shut) p l.2

@@ -2,12 +2,16 @@
 #![tactic(auto)]
 
 mod answers;
+mod axes;
 mod lawful_lists;
 mod relations;
 
 pub use answers::{
     answers_are_exact_on_a_still_table, answers_stay, nothing_follows_an_end,
     still_tables_do_not_grow,
+};
+pub use axes::{
+    ancestors_are_the_parent_and_its_ancestors, descendants_are_within_the_extent, known_axes_stay,
 };
 pub use lawful_lists::{beginnings_are_lawful, legal_logs_stand_for_lawful_steps};
 pub use relations::{
