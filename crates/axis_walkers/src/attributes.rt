@@ -1,0 +1,32 @@
+ghost use Rattle.std.specs.Prelude.{◌≡◌};
+ghost use Rattle.doc_model.specs.declared.row.Axis.TheVariants as axis;
+ghost use Rattle.doc_model.specs.Answers.{Answers};
+ghost use Rattle.doc_model.specs.Axes.{axis_of};
+ghost use Rattle.doc_model.specs.Lawful.{IsJoined};
+ghost use Rattle.doc_model.specs.View.{Moves};
+ghost use Rattle.axis_walkers.specs.Asks.{stop_of};
+
+use crate::ask::Ask;
+use crate::selection::Selection;
+use doc_model::{Kind, NodeView, Test};
+use lists::List;
+use std::alloc::Global;
+
+// The rows right after the row that are its attributes.
+pub(crate) fn attributes<V: NodeView>(
+    alloc: Global,
+    view: &mut V,
+    n: u32,
+    test: &Test,
+) -> Result<List<u32>, Ask>
+    requires { IsJoined (V.sees view.old).steps n }
+    ensures moves { Moves (V.sees view.old) (V.sees view.new) }
+    ensures answers { Answers stop_of (λ rules steps. axis_of rules steps n axis.Attribute test.now) (V.sees view.old) (V.sees view.new) result }
+{
+    let count = view.attr_count(n);
+    let mut found = Selection::new(alloc);
+    for k in n + 1..n + 1 + count {
+        found.offer(view, k, Kind::Attribute, test)?;
+    }
+    Ok(found.into_rows())
+}

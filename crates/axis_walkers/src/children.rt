@@ -1,0 +1,40 @@
+ghost use Rattle.std.specs.Prelude.{◌≡◌};
+ghost use Rattle.doc_model.specs.declared.row.Axis.TheVariants as axis;
+ghost use Rattle.doc_model.specs.Answers.{Answers};
+ghost use Rattle.doc_model.specs.Axes.{axis_of};
+ghost use Rattle.doc_model.specs.Lawful.{IsJoined};
+ghost use Rattle.doc_model.specs.View.{Moves};
+ghost use Rattle.axis_walkers.specs.Asks.{stop_of};
+
+use crate::ask::Ask;
+use crate::selection::Selection;
+use doc_model::{Kind, Look, NodeView, Test};
+use lists::List;
+use std::alloc::Global;
+
+// The children one after another.
+pub(crate) fn children<V: NodeView>(
+    alloc: Global,
+    view: &mut V,
+    n: u32,
+    test: &Test,
+) -> Result<List<u32>, Ask>
+    requires { IsJoined (V.sees view.old).steps n }
+    ensures moves { Moves (V.sees view.old) (V.sees view.new) }
+    ensures answers { Answers stop_of (λ rules steps. axis_of rules steps n axis.Child test.now) (V.sees view.old) (V.sees view.new) result }
+{
+    let mut found = Selection::new(alloc);
+    let mut at = match view.first(n) {
+        Look::Node(k) => k,
+        Look::Nothing => return Ok(found.into_rows()),
+        Look::NotYet => return Err(Ask::NotYet(n)),
+    };
+    'walk: loop {
+        found.offer(view, at, Kind::Element, test)?;
+        match view.next(at) {
+            Look::Node(k) => at = k,
+            Look::Nothing => return Ok(found.into_rows()),
+            Look::NotYet => return Err(Ask::NotYet(n)),
+        }
+    }
+}
