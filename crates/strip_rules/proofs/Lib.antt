@@ -1,0 +1,9 @@
+mod Later
+mod Ruling
+mod Spacing
+mod Judging
+mod Passing
+mod Skips
+mod Earlier
+mod Among
+mod Deciding
