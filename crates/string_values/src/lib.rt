@@ -1,0 +1,12 @@
+//! String-values of the rows of any view.
+#![tactic(auto)]
+
+mod laws;
+mod value;
+
+pub use axis_walkers::Ask;
+pub use laws::known_values_stay;
+pub use value::value_of;
+
+#[cfg(test)]
+mod tests;
