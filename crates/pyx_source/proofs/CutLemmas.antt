@@ -1,11 +1,10 @@
 -- The first line of bytes, where it ends in what is held.
-use Rattle.std.proofs.Common.{◌≡◌, ℕ, zero, suc, ◌+◌, ◌<◌, ◌≤◌, ◌==◌, List, [], ◌∷◌, ◌++◌, ◌∙◌, Option, Some, None, Bool, true, false, not, nat_le, nat_lt, Result, Ok, Err, length, get_or, take, drop, drop-cons, refl, sym, subst, arith, ap, append_assoc, append-nil, length-append}
-use Rattle.std.specs.List.{list_all, slice_split, onto_first}
+use Rattle.std.proofs.Common.{◌≡◌, ℕ, suc, ◌+◌, ◌<◌, ◌≤◌, ◌==◌, List, [], ◌∷◌, ◌++◌, ◌∙◌, Option, Some, None, Bool, true, false, nat_le, nat_lt, Err, length, get_or, take, drop, refl, sym, subst, arith, ap, append_assoc, append-nil, length-append}
+use Rattle.std.specs.List.{slice_split}
 use Rattle.std.specs.Io.KnownBytes.{Consumes, IsAtEnd}
 use Rattle.std.proofs.lemmas.Grind.{common_steps}
 use Rattle.std.proofs.lemmas.Bool.Decides.{nat_tests}
 use Rattle.std.proofs.Math.Seq.{split_at}
-use Rattle.pyx_lines.specs.declared.line.Line.{Line}
 use Rattle.pyx_lines.specs.Lines.{without_empty_end, cut_lines, judged, judged_from, Refusal, TooManyLines, LongLine}
 use Rattle.pyx_lines.proofs.Written.{cut_lines-feed, split_some}
 use Rattle.pyx_source.specs.Feeds.{HoldsNoFeed}
@@ -15,15 +14,17 @@ use Rattle.pyx_source.specs.Finding.{Cuts, CutsAt, IsOver, Refuses}
 use Rattle.pyx_source.specs.Moving.{Moves}
 use Rattle.pyx_source.proofs.MoveLemmas.{moved, moves_more}
 
+-- the bytes before the line feed, the line feed and those after it
+pub feed_parts : (held more : List ℕ) (at : ℕ) → at < length held → get_or held at 0 ≡ 10 → held ++ more ≡ take at held ++ 10 ∷ (drop (at + 1) held ++ more)
+feed_parts held more at within feed =
+    let next : at + 1 ≡ suc at = omega arith in
+    let parts : held ≡ take at held ++ 10 ∷ drop (suc at) held = rw feed at (split_at held at 0 within) in
+    rw next (ap (λ (bytes : List ℕ). bytes ++ more) parts ∙ append_assoc (take at held) (10 ∷ drop (suc at) held) more)
+
 -- up to the first line feed
 feed_cut : (held more : List ℕ) (at : ℕ) → at < length held → get_or held at 0 ≡ 10 → HoldsNoFeed (take at held) →
     cut_lines (held ++ more) ≡ take at held ∷ cut_lines (drop (at + 1) held ++ more)
-feed_cut held more at within feed plain =
-    let next : at + 1 ≡ suc at = omega arith in
-    let parts : held ≡ take at held ++ 10 ∷ drop (suc at) held = rw feed at (split_at held at 0 within) in
-    let all : held ++ more ≡ take at held ++ 10 ∷ (drop (suc at) held ++ more) =
-    ap (λ (bytes : List ℕ). bytes ++ more) parts ∙ append_assoc (take at held) (10 ∷ drop (suc at) held) more in
-    rw next (rw all (cut_lines-feed (take at held) (drop (suc at) held ++ more) plain))
+feed_cut held more at within feed plain = rw (feed_parts held more at within feed) (cut_lines-feed (take at held) (drop (at + 1) held ++ more) plain)
 
 head_of : (parts : List (List ℕ)) → 0 < length parts → (part : List ℕ) × ((later : List (List ℕ)) × (parts ≡ part ∷ later))
 head_of [] some = absurd (omega arith)

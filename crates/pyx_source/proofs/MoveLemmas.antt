@@ -1,9 +1,7 @@
 -- Bytes that go from a source to a reader, read by read.
-use Rattle.std.proofs.Common.{◌≡◌, ◌⊎◌, ℕ, ◌≤◌, List, [], ◌∷◌, ◌++◌, Option, Some, None, length, take, refl, sym, subst, inl, inr, arith, append_assoc, append-nil}
-use Rattle.std.proofs.lemmas.Grind.{common_steps}
-use Rattle.std.specs.Io.KnownBytes.{Consumes, Keeps}
-use Rattle.pyx_source.specs.Feeds.{HoldsNoFeed}
-use Rattle.pyx_source.specs.Moving.{Moves, TakesPiece, LastRead, ReadsOnlyForALine}
+use Rattle.std.proofs.Common.{◌≡◌, ℕ, List, ◌++◌, Option, Some, None, refl, append_assoc}
+use Rattle.std.specs.Io.KnownBytes.{Consumes}
+use Rattle.pyx_source.specs.Moving.{Moves}
 
 pub moved : (held xs held' ys : List ℕ) → Moves held (Some xs) held' (Some ys) → held ++ xs ≡ held' ++ ys
 moved held xs held' ys m = rw (m.added, m.taken, append_assoc held m.bytes ys) refl

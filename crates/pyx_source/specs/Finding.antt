@@ -1,14 +1,15 @@
 -- Where the next line ends in what is held.
-use Rattle.std.specs.Prelude.{◌≡◌, ℕ, ◌+◌, ◌<◌, ◌≤◌, List, [], ◌∷◌, ◌++◌, ⊤, length, take, drop, Option, Some, None, Result, Err}
+use Rattle.std.specs.Prelude.{◌≡◌, ℕ, ◌+◌, ◌<◌, ◌≤◌, List, [], ◌∷◌, ◌++◌, ⊤, length, slice_index, take, drop, Option, Some, None, Result, Err}
 use Rattle.std.specs.Io.KnownBytes.{IsAtEnd}
 use Rattle.pyx_lines.specs.declared.line.Line.{Line as PyxLine}
 use Rattle.pyx_lines.specs.Lines.{cut_lines, judged_from, Refusal}
+use Rattle.pyx_source.specs.Feeds.{HoldsNoFeed}
 use Rattle.pyx_source.specs.declared.seeking.Found.{Found}
 use Rattle.pyx_source.specs.declared.seeking.Found.TheVariants.{Line, Last, End}
 
--- the bytes of the line are held, and its line feed if it has one
+-- the bytes of the line are held, and its line feed, the first, if it has one
 abbrev pub IsHeld : Found → List ℕ → Type 0
-IsHeld (Line at) held = at < length held
+IsHeld (Line at) held = (at < length held) × (slice_index held at ≡ 10) × HoldsNoFeed (take at held)
 IsHeld (Last at) held = at ≡ length held
 IsHeld End held = held ≡ []
 

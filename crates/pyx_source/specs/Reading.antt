@@ -3,6 +3,8 @@ use Rattle.std.specs.Prelude.{◌≡◌, ◌≤◌, ℕ, ◌+◌, List, [], ◌�
 use Rattle.pyx_lines.specs.declared.line.Line.{Line}
 use Rattle.pyx_lines.specs.declared.line.Line.TheVariants.{Start, End, Attr, Text, Instruction, Passed}
 use Rattle.pyx_lines.specs.Lines.{cut_lines, judged, judged_from, Refusal, TooManyLines, LongLine, Misspelled}
+use Rattle.pyx_lines.specs.Spelling.{line_of}
+use Rattle.pyx_source.specs.Feeds.{HoldsNoFeed}
 use Rattle.pyx_source.specs.declared.read_error.ReadError.{ReadError}
 use Rattle.pyx_source.specs.declared.read_error.ReadError.TheVariants as error
 use Rattle.pyx_lines.specs.declared.line_error.LineError.{LineError}
@@ -30,6 +32,17 @@ GivesNext old None given new left' = ⊤
 GivesNext old (Some left) given new None = ⊥
 GivesNext old (Some left) None new (Some left') = (old.held ++ left ≡ []) × (new.held ++ left' ≡ [])
 GivesNext old (Some left) (Some line) new (Some left') = ahead_of old left ≡ Ok line ∷ ahead_of new left'
+
+-- unless the source's end was met, what was held and left has lost the bytes of a line and its line feed
+abbrev pub TakesNext : Reading → Option (List ℕ) → Option Line → Reading → Option (List ℕ) → Type 0
+TakesNext old None given new left' = ⊤
+TakesNext old (Some left) given new None = ⊥
+TakesNext old (Some left) None new (Some left') = ⊤
+TakesNext old (Some left) (Some line) new (Some left') = new.ended ≡ false → (cut : List ℕ) × HoldsNoFeed cut × (old.held ++ left ≡ cut ++ 10 ∷ (new.held ++ left'))
+
+-- some bytes spell the line
+abbrev pub IsSpelled : Line → Type 0
+IsSpelled line = (bytes : List ℕ) × (line_of bytes ≡ Ok line)
 
 -- the next line is refused so
 abbrev pub RefusesNext : Reading → Option (List ℕ) → Refusal → Type 0

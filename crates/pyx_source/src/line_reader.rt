@@ -1,5 +1,5 @@
 // The lines of a source, however it is cut into pieces.
-ghost use Rattle.std.specs.Prelude.{◌≡◌, ◌≢◌, ◌≤◌, ◌+◌, false, Ok, Err, Some, None, IsTrue, IfOk, IfErr, IfSome, IsErrOf, OnErr, length, take};
+ghost use Rattle.std.specs.Prelude.{◌≡◌, ◌≢◌, ◌≤◌, ◌+◌, [], false, Ok, Err, Some, None, IsTrue, IfOk, IfErr, IfSome, IsErrOf, OnErr, length, take};
 ghost use Rattle.std.specs.Str.Lines.{strip_carriage_return};
 ghost use Rattle.std.specs.Io.KnownBytes.{IsAtEnd};
 ghost use Rattle.edge.specs.Causes.{Rose};
@@ -7,7 +7,7 @@ ghost use Rattle.pyx_lines.specs.Lines.{judged};
 ghost use Rattle.pyx_source.specs.declared.read_error.ReadError.TheVariants.{Failed};
 ghost use Rattle.pyx_source.specs.Feeds.{HoldsNoFeed};
 ghost use Rattle.pyx_source.specs.Moving.{Moves, ReadsOnlyForALine};
-ghost use Rattle.pyx_source.specs.Reading.{error_for, fresh, refusal_of, lines_by, passed_by, after_refusal, GivesLine, GivesNext, RefusesNext, CountsNext, CountsRefusal};
+ghost use Rattle.pyx_source.specs.Reading.{error_for, fresh, IsSpelled, TakesNext, refusal_of, lines_by, passed_by, after_refusal, GivesLine, GivesNext, RefusesNext, CountsNext, CountsRefusal};
 
 use crate::ReadError;
 use crate::pending::Pending;
@@ -89,7 +89,11 @@ impl LineReader {
     ) -> Result<Option<Line>, ReadError>
         ensures given { self.old.ended ≡ false →
             IfOk result (λ given. GivesNext self.old (S.left source.old) given self.new (S.left source.new)) }
+        ensures taken { self.old.ended ≡ false →
+            IfOk result (λ given. TakesNext self.old (S.left source.old) given self.new (S.left source.new)) }
+        ensures spells { IfOk result (λ given. IfSome given IsSpelled) }
         ensures end { self.old.ended ≡ false → IsTrue self.new.ended → self.new.refused ≡ None → IsAtEnd (S.left source.new) }
+        ensures nothing { IsTrue self.new.ended → self.new.held ≡ [] }
         ensures counted { IfOk result (λ given. CountsNext self.old given self.new) }
 
         // The first refusal, and what it leaves.
@@ -127,7 +131,10 @@ impl LineReader {
         requires open { self.old.refused ≡ None }
         requires unended { self.old.ended ≡ false }
         ensures given { IfOk result (λ given. GivesNext self.old (S.left source.old) given self.new (S.left source.new)) }
+        ensures taken { IfOk result (λ given. TakesNext self.old (S.left source.old) given self.new (S.left source.new)) }
+        ensures spells { IfOk result (λ given. IfSome given IsSpelled) }
         ensures end { IsTrue self.new.ended → self.new.refused ≡ None → IsAtEnd (S.left source.new) }
+        ensures nothing { IsTrue self.new.ended → self.new.held ≡ [] }
         ensures counted { IfOk result (λ given. CountsNext self.old given self.new) }
         ensures refused { IfErr result (λ error. IfSome (refusal_of error) (λ refusal.
             RefusesNext self.old (S.left source.old) refusal)) }
@@ -158,6 +165,7 @@ impl LineReader {
         requires few { self.old.line + 1 ≤ 4294967295 }
         requires all { IsTrue ended → at ≡ length self.old.held }
         ensures given { IfOk result (λ given. GivesLine self.old at ended given self.new) }
+        ensures nothing { IsTrue self.new.ended → self.new.held ≡ [] }
         ensures refused { IfErr result (λ error. IfSome (refusal_of error) (λ refusal.
             judged (self.old.line + 1) (take at self.old.held) ≡ Err refusal)) }
         ensures failed { IsErrOf result Failed → ⊥ }

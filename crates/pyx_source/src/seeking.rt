@@ -40,6 +40,7 @@ pub fn seek<S: Source>(
     requires { vec_len piece.old ≡ 65536 }
     ensures piece { vec_len piece.new ≡ 65536 }
     ensures held { IfOk result (λ found. IsHeld found pending.new) }
+    ensures moved { IfOk result (λ _. Moves pending.old (S.left source.old) pending.new (S.left source.new)) }
     ensures allowed { IfOk result (λ found. IsAllowed found line) }
     ensures found { IfOk result (λ found. Cuts pending.old (S.left source.old) found pending.new (S.left source.new)) }
     ensures end { IfOk result (λ found. MeetsEnd found (S.left source.new)) }
