@@ -2,6 +2,7 @@ ghost use Rattle.std.specs.Prelude.{◌≡◌, ◌≤◌, ◌∷◌, [], List, E
 ghost use Rattle.doc_model.specs.declared.limits.Limits.{Limits};
 ghost use Rattle.pyx_lines.specs.declared.line.Line.{Line};
 ghost use Rattle.pyx_events.specs.declared.halt.Halt.{Halt};
+ghost use Rattle.pyx_events.specs.Before.{value_bytes};
 ghost use Rattle.pyx_events.specs.Answer.{IsAnswer, IsEndAnswer, halt_of, repeated};
 ghost use Rattle.pyx_events.specs.Checking.{Stands, IsHalted, HasRoom};
 
@@ -62,6 +63,13 @@ impl Checker {
                 Err(error)
             }
         }
+    }
+
+    /// The bytes of values in the lines that have been taken, pending ones counted. A declaration has none.
+    pub fn text(&self) -> u64
+        ensures { (limits : Limits) (before : List Line) → Stands limits self.now before → result ≡ value_bytes before }
+    {
+        self.progress.nesting.bytes
     }
 
     /// Judges the input's end: it gives no event, and is called at most once. A refusal is given for
