@@ -152,7 +152,8 @@ impl NamePool {
         Ok(at + FIRST_TYPE)
     }
 
-    fn prefix_number(&self, text: &[u8]) -> Option<u32>
+    /// The number of a prefix that was added; the empty one has 0. Takes no memory.
+    pub fn prefix_number(&self, text: &[u8]) -> Option<u32>
         ensures number { (n : ℕ) → (result ≡ Some n) ↔ IsPrefixNumber self.now n text.now }
         ensures new { IfNone result (IsNew ([] ∷ self.now.prefixes) text.now) }
     {
