@@ -1,5 +1,5 @@
 -- A row that may come first.
-use Rattle.std.proofs.Common.{◌≡◌, List, [], ◌∷◌, ◌++◌, false, true, refl, sym, arith, inl}
+use Rattle.std.proofs.Common.{[], ◌∷◌, ◌++◌, refl, sym, arith, inl}
 use Rattle.std.proofs.lemmas.Bool.{false≢true}
 use Rattle.std.specs.Str.{is_utf8, chars}
 use lib.Utf8.{encode}

@@ -8,3 +8,4 @@ pub mod Stacks
 pub mod Shutting
 pub mod Joining
 pub mod Cases
+pub mod Adding

@@ -3,3 +3,4 @@ pub mod Filled
 pub mod Filler
 pub mod Stack
 pub mod Stands
+pub mod New

@@ -2,9 +2,11 @@
 #![tactic(auto)]
 
 mod filler;
+mod new_names;
 mod open_row;
 mod writer;
 
+pub use new_names::NewNames;
 pub use writer::NodeWriter;
 
 #[cfg(test)]

@@ -18,7 +18,7 @@ use std::alloc::Global;
 /// links. It keeps the names of the table, and of each open row the number and the last child.
 #[derive(Drop)]
 pub struct NodeWriter {
-    filler: Filler,
+    pub(crate) filler: Filler,
     // the open rows, the root first
     stack: List<OpenRow>,
 }

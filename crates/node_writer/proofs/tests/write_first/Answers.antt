@@ -1,4 +1,4 @@
-use Rattle.std.proofs.Common.{◌≡◌, List, [], ◌∷◌, ◌++◌, None, sym, subst, refl}
+use Rattle.std.proofs.Common.{◌≡◌, [], ◌∷◌, ◌++◌, None, sym, subst, refl}
 use Rattle.doc_model.specs.declared.row.Row.{Row}
 use Rattle.doc_model.specs.declared.step.Step.TheVariants.{Node}
 use Rattle.doc_model.specs.Document.{document_of}
@@ -7,7 +7,7 @@ use Rattle.doc_model.specs.Rows.{rows_of}
 use Rattle.plain_columns.specs.Value.{Table}
 use Rattle.node_writer.specs.Stands.{Stands}
 use Rattle.node_writer.specs.Taken.{HasRoom}
-use Rattle.node_writer.proofs.Cases.{first_row, few_limits, first_may, first_room}
+use Rattle.node_writer.proofs.Cases.{few_limits, first_may, first_room}
 use Rattle.node_writer.proofs.tests.write_first.Goals as goal
 
 pub node-requires : goal.node-requires

@@ -1,0 +1,34 @@
+use Rattle.std.proofs.Common.{◌≡◌, ◌+◌, List, [], ◌∷◌, ◌++◌, take, refl, ap, sym, ◌∙◌, subst, append-nil}
+use Rattle.std.proofs.lemmas.List.{take_more}
+use Rattle.doc_model.specs.declared.row.Row.{Row}
+use Rattle.doc_model.specs.Rows.{rows_of}
+use Rattle.node_writer.specs.declared.new_names.NewNames.{NewNames}
+use Rattle.node_writer.specs.New.{AddsNames, has_new_name, has_new_prefix}
+use Rattle.node_writer.proofs.Adding.{adds_none, adds_more}
+use Rattle.node_writer.proofs.writer.NodeWriter.new_names.Goals as goal
+
+pub loop-at-init : goal.loop-at-init
+loop-at-init c limits cells s =
+    let rows = rows_of cells.steps in
+    let none : NewNames = record { count = 0; bytes = 0 } in
+    let row = c.args.row.now in
+    let nothing : rows ++ [] ≡ rows = append-nil rows in
+    adds_more rows [] row none c.with_row-new.result c.is_new_type.result c.is_new_prefix.result
+    (adds_none rows none refl refl)
+    (c.is_new_type.ensures limits cells s ∙ ap (λ (all : List Row). has_new_name all row) (sym nothing))
+    (c.is_new_prefix.ensures limits cells s ∙ ap (λ (all : List Row). has_new_prefix all row) (sym nothing))
+    (record { count = c.with_row-new.ensures.count; bytes = c.with_row-new.ensures.bytes })
+
+pub loop-at-preserved : goal.loop-at-preserved
+loop-at-preserved c limits cells s =
+    let rows = rows_of cells.steps in
+    let attributes = c.args.attributes.now in
+    let k = c.loop-at.at in
+    let x = c.index-attributes-at.result in
+    let one : take (k + 1) attributes ≡ take k attributes ++ x ∷ [] = take_more attributes k x c.loop-at-test.true ∙ ap (λ (y : Row). take k attributes ++ y ∷ []) (sym c.index-attributes-at.is) in
+    subst (λ (all : List Row). AddsNames rows (c.args.row.now ∷ all) c.with_row-new-in-loop-at.result) (sym one)
+    (adds_more rows (c.args.row.now ∷ take k attributes) x c.loop-at.new c.with_row-new-in-loop-at.result c.is_type_new_after-name.result c.is_prefix_new_after-prefix.result
+    (c.loop-at.invariant limits cells s)
+    (c.is_type_new_after-name.ensures limits cells s)
+    (c.is_prefix_new_after-prefix.ensures limits cells s)
+    (record { count = c.with_row-new-in-loop-at.ensures.count; bytes = c.with_row-new-in-loop-at.ensures.bytes }))
