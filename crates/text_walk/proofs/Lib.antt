@@ -1,5 +1,8 @@
 pub mod Order
 pub mod Text
+pub mod Deep
 pub mod Reach
 pub mod Asked
 pub mod Measure
+pub mod Final
+pub mod Cases

@@ -68,7 +68,7 @@ count_fits rows n l = elim (cases_Bool (is_attribute (row_at rows n).kind)) [
   | inr e ↦ rw e (omega (arith, run_le (drop (suc n) rows), length-drop (suc n) rows))
 ]
 
-take_on : (a b : ℕ) (xs : List Row) → take (a + b) xs ≡ take a xs ++ take b (drop a xs)
+pub take_on : (a b : ℕ) (xs : List Row) → take (a + b) xs ≡ take a xs ++ take b (drop a xs)
 take_on zero b xs = let z : 0 + b ≡ b = omega arith in ap (λ k. take k xs) z
 take_on (suc a) b [] = take_none (suc a + b) ∙ sym (take_none b)
   where

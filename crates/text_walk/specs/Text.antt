@@ -1,10 +1,8 @@
--- What the built-in template rules make of rows (XSLT 1.0, section 5.8): the values of the texts in document order.
-use Rattle.std.specs.Prelude.{◌≡◌, ℕ, Bool, not, ◌&&◌, List, ◌++◌, length, map, filter}
+-- What the built-in template rules give of rows (XSLT 1.0, section 5.8): the values of the texts in document order.
+use Rattle.std.specs.Prelude.{ℕ, Bool, not, ◌&&◌, List, length, map, filter}
 use Rattle.std.specs.List.{concat}
 use Rattle.doc_model.specs.declared.row.Row.{Row}
-use Rattle.doc_model.specs.declared.step.Step.{Step}
 use Rattle.doc_model.specs.Legible.{is_empty}
-use Rattle.doc_model.specs.Rows.{rows_of}
 use Rattle.doc_model.specs.Strip.{is_text}
 
 abbrev pub is_text_row : Row → Bool
@@ -23,8 +21,3 @@ is_event row = is_text row.kind && not (is_empty row.value)
 
 abbrev pub events_in : List Row → ℕ
 events_in rows = length (filter is_event rows)
-
--- the bytes grew by the text of the rows of these steps, in so many events
-pub record IsGiven (steps : List Step) (before later : List ℕ) (events : ℕ) : Type 0 where
-  pub text : later ≡ before ++ text_of (rows_of steps)
-  pub count : events ≡ events_in (rows_of steps)

@@ -1,11 +1,19 @@
-//! The text that the built-in template rules give, read from any table as far as it has grown.
+//! The text that the built-in template rules give, read from any table while it grows.
 #![tactic(auto)]
 
-mod built_in;
 mod extents;
+mod fault;
+mod resuming;
+mod turn;
+mod walker;
 
-pub use built_in::{Walked, walk};
 pub use extents::links_follow_extents;
+pub use fault::FaultKind;
+pub use resuming::{done_is_final, fault_is_final, still_turn_stands, turn_goes_on, way_goes_on};
+pub use turn::Turn;
+pub use walker::Walker;
 
+#[cfg(test)]
+mod case;
 #[cfg(test)]
 mod tests;

@@ -6,7 +6,7 @@ use Rattle.doc_model.specs.Strip.{is_text}
 use Rattle.doc_laws.proofs.Growth.{joined_grows}
 use Rattle.doc_laws.proofs.Staying.{data_stay}
 use Rattle.text_walk.proofs.Text.{text_alone, longer}
-use Rattle.text_walk.proofs.built_in.append_text.Goals as goal
+use Rattle.text_walk.proofs.walker.append_text.Goals as goal
 
 pub returns-clause-text : goal.returns-clause-text
 returns-clause-text g c =
