@@ -1,0 +1,28 @@
+ghost use Rattle.std.specs.Prelude.{◌≡◌};
+ghost use Rattle.dtm_builder.specs.Judging.{verdict_of};
+
+use doc_model::{Flaw, Verdict};
+use thiserror::Error;
+
+/// Why a builder takes no more lines.
+#[derive(Clone, Copy, Debug, PartialEq, Eq, Error)]
+pub enum BuildError {
+    /// The source has this flaw, with which the table ended.
+    #[error("the source has a flaw")]
+    Refused(Flaw),
+    /// The table ended as Starved.
+    #[error("out of memory")]
+    Memory,
+}
+
+impl BuildError {
+    /// What a table that is built no further ends with.
+    pub(crate) fn verdict(self) -> Verdict
+        ensures { result ≡ verdict_of self }
+    {
+        match self {
+            BuildError::Refused(flaw) => Verdict::Bad(flaw),
+            BuildError::Memory => Verdict::Starved,
+        }
+    }
+}

@@ -1,0 +1,64 @@
+// Events written into a table.
+ghost use Rattle.std.specs.Prelude.{◌≡◌, ◌++◌, ◌∷◌, [], List, None, OnOk, OnErr};
+ghost use Rattle.doc_model.specs.Document.{document_of};
+ghost use Rattle.doc_model.specs.declared.step.Step.{Step};
+ghost use Rattle.pyx_events.specs.Steps.{step_of, steps_of_events};
+ghost use Rattle.node_writer.specs.Stands as writing;
+ghost use Rattle.dtm_builder.specs.Standing.{CanFollow};
+
+use doc_model::GrowCells;
+use name_pool::Memory;
+use node_writer::NodeWriter;
+use pyx_events::Event;
+use std::alloc::Global;
+
+/// Appends the steps of these events.
+pub(crate) fn write_events<C: GrowCells>(
+    writer: &mut NodeWriter,
+    alloc: Global,
+    c: &mut C,
+    events: &[Event],
+) -> Result<(), Memory>
+    requires stands { writing.Stands writer.old (C.limits c.old) (C.cells c.old) }
+    requires follows { CanFollow (C.limits c.old) (C.cells c.old).steps (steps_of_events events.now) }
+    ensures stands { OnOk result (writing.Stands writer.new (C.limits c.new) (C.cells c.new)) }
+    ensures steps { OnOk result ((C.cells c.new).steps ≡ (C.cells c.old).steps ++ steps_of_events events.now) }
+    ensures made { OnErr result ((made left : List Step) × (made ++ left ≡ steps_of_events events.now) × ((C.cells c.new).steps ≡ (C.cells c.old).steps ++ made)) }
+    ensures going { OnErr result ((document_of (C.cells c.new).steps).ended ≡ None) }
+    ensures limits { C.limits c.new ≡ C.limits c.old }
+    ensures mark { C.mark c.new ≡ C.mark c.old }
+{
+    for event in events {
+        write_event(writer, alloc, c, event)?;
+    }
+    Ok(())
+}
+
+// Appends the step of an event.
+fn write_event<C: GrowCells>(
+    writer: &mut NodeWriter,
+    alloc: Global,
+    c: &mut C,
+    event: &Event,
+) -> Result<(), Memory>
+    requires stands { writing.Stands writer.old (C.limits c.old) (C.cells c.old) }
+    requires follows { CanFollow (C.limits c.old) (C.cells c.old).steps (step_of event.now ∷ []) }
+    ensures stands { OnOk result (writing.Stands writer.new (C.limits c.new) (C.cells c.new)) }
+    ensures steps { OnOk result ((C.cells c.new).steps ≡ (C.cells c.old).steps ++ step_of event.now ∷ []) }
+    ensures err { OnErr result ((C.cells c.new).steps ≡ (C.cells c.old).steps) }
+    ensures limits { C.limits c.new ≡ C.limits c.old }
+    ensures mark { C.mark c.new ≡ C.mark c.old }
+{
+    match event {
+        Event::Node {
+            row,
+            attributes,
+            declarations: _,
+            line: _,
+        } => writer.node(alloc, c, row, attributes.as_slice()),
+        Event::Shut => {
+            writer.shut(c);
+            Ok(())
+        }
+    }
+}
