@@ -1,0 +1,5 @@
+mod Sources
+mod Lasting
+mod Cuts
+mod Answers
+mod Readers

@@ -1,0 +1,5 @@
+pub mod Feeds
+pub mod Standing
+pub mod Feeding
+pub mod Running
+pub mod Answering
