@@ -1,4 +1,5 @@
-pub mod RowLemmas
-pub mod LineLemmas
-pub mod SourceLemmas
+pub mod TurnLemmas
+pub mod PlayLemmas
+pub mod PairLemmas
+pub mod JudgedLemmas
 pub mod TopLemmas

@@ -1,9 +1,4 @@
-pub mod Lines
-pub mod Keeping
-pub mod Reading
-pub mod Events
-pub mod Flaws
-pub mod Steps
-pub mod Source
-pub mod Building
+pub mod Turns
+pub mod Progress
 pub mod Top
+pub mod Playing

@@ -1,12 +1,13 @@
 //! The top call: it transforms a source while it is read, and answers a status.
 #![tactic(auto)]
 
-mod builder;
-mod event;
-mod lines;
-mod source;
+mod console;
+mod limits;
+mod play;
 mod top;
+mod transform;
 
+pub use limits::{LIMITS, default_limits};
 pub use top::pace;
 
 #[cfg(test)]
