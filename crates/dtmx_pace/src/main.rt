@@ -1,4 +1,4 @@
-//! Transforms standard input into the file that the word `builtin=OUT` names; the exit status is the answer's.
+//! Transforms standard input while it is read into the files that the words `builtin=OUT` name; the exit status is the answer's.
 #![tactic(auto)]
 
 use driver::pace;
