@@ -1,0 +1,11 @@
+mod Wider
+mod Same
+mod AllSigns
+mod Fill
+mod Filled
+mod Firsts
+mod LookAhead
+mod Goes
+mod Only
+mod Exact
+mod Unique
