@@ -1,7 +1,7 @@
 # Builds, shows and tests the programs. Needs the kit's command `rt` on the path.
 PACE = crates/dtmx_pace/out/dtmx_pace
 
-.PHONY: build demo test bench
+.PHONY: build demo test bench contrib-test
 
 build:
 	cd crates/dtmx_pace && rt run -- builtin=out/built.txt < stdin
@@ -14,7 +14,11 @@ test:
 	rt ci
 
 bench: build
-	cd crates/line_count && rt run < stdin
-	cd crates/event_count && rt run < stdin
 	bench/lines.sh
 	bench/scopes.sh
+	bench/turns.sh
+	bench/real.sh
+
+# The scripts between XML and the lines need python3 alone.
+contrib-test:
+	python3 contrib/test_pyx.py
