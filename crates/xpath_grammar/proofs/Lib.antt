@@ -7,5 +7,5 @@ mod Firsts
 mod LookAhead
 mod Goes
 mod Only
-mod Exact
-mod Unique
+pub mod Exact
+pub mod Unique

@@ -3,5 +3,5 @@ mod Covers
 mod Sound
 mod Cuts
 mod Steps
-mod Alone
+pub mod Alone
 mod Layers

@@ -75,9 +75,10 @@ pub enum TestExpr {
     Instruction(Option<List<u8>>),
 }
 
-/// An expression (XPath 1.0, 3).
+/// An expression (XPath 1.0, 3). Only brackets, predicates, argument lists and unary minus nest by a limit; operators of
+/// one precedence group to the left without one, so a chain of them is a tree as deep as it is long.
 #[cycle(expression)]
-#[derive(Debug, Drop, PartialEq, Eq)]
+#[derive(Debug, PartialEq, Eq)]
 pub enum Expr {
     Binary {
         op: Op,
@@ -102,6 +103,36 @@ pub enum Expr {
         predicates: List<Expr>,
         tail: Option<Path>,
     },
+}
+
+// By a loop over left operands, so that a long chain of operators takes no stack.
+impl Drop for Expr {
+    #[cycle(expression)]
+    fn drop(mut self) {
+        loop {
+            match self {
+                Expr::Binary { op: _, left, right } => {
+                    drop(right);
+                    self = left.into_inner();
+                }
+                Expr::Minus(inner) => self = inner.into_inner(),
+                Expr::Literal(_) => return,
+                Expr::Number(_) => return,
+                Expr::Variable(_) => return,
+                Expr::Call { name: _, args } => return drop(args),
+                Expr::Path(path) => return drop(path),
+                Expr::Filter {
+                    primary,
+                    predicates,
+                    tail,
+                } => {
+                    drop(predicates);
+                    drop(tail);
+                    self = primary.into_inner();
+                }
+            }
+        }
+    }
 }
 
 /// A location path (XPath 1.0, 2).
