@@ -1,0 +1,6 @@
+mod Lengths
+mod Wholes
+mod ByGrammar
+mod Climbing
+mod Exits
+mod PatternSteps
