@@ -1,0 +1,5 @@
+(list
+(item
+-one
+)itme
+)list
