@@ -1,0 +1,4 @@
+pub mod Prefixes
+pub mod Values
+pub mod Seats
+pub mod Keeps
