@@ -4,7 +4,7 @@ use Rattle.std.proofs.lemmas.Bool.{cases_Bool, cases_lt, cases_eq, and_parts, an
 use Rattle.doc_model.specs.declared.node_test.Test.{Test}
 use Rattle.doc_model.specs.declared.row.Axis.TheVariants as axis
 use Rattle.doc_model.specs.declared.row.Kind.{Kind}
-use Rattle.doc_model.specs.declared.row.Kind.TheVariants.{Root, Element, Attribute, Text, Instruction}
+use Rattle.doc_model.specs.declared.row.Kind.TheVariants.{Root, Element, Attribute, Text, Instruction, Comment, Comment}
 use Rattle.doc_model.specs.declared.row.Row.{Row}
 use Rattle.doc_model.specs.declared.strip_rule.StripRule.{StripRule}
 use Rattle.doc_model.specs.Axes.{is_node, is_below, is_descendant, is_ancestor, is_child_of_some, is_sibling, is_attribute_of, is_on, is_selected}
@@ -156,6 +156,7 @@ parent_no_text Element h = refl
 parent_no_text Attribute h = refl
 parent_no_text Text h = absurd (false≢true h)
 parent_no_text Instruction h = refl
+parent_no_text Comment h = refl
 
 pub parent_visible : (rules : List StripRule) (rows : List Row) (n k : ℕ) → TreeHolds rows → n < length rows → parent_of rows n ≡ Some k → is_visible rules rows k ≡ true
 parent_visible rules rows n k t l e = visible_unless_text rules rows k (parent_no_text (row_at rows k).kind (t.parents n k l e))
@@ -285,6 +286,7 @@ parent_plain Element h = refl
 parent_plain Attribute h = absurd (false≢true h)
 parent_plain Text h = refl
 parent_plain Instruction h = refl
+parent_plain Comment h = refl
 
 attribute_no_text : (k : Kind) → is_attribute k ≡ true → is_text k ≡ false
 attribute_no_text Root h = refl
@@ -292,6 +294,7 @@ attribute_no_text Element h = refl
 attribute_no_text Attribute h = refl
 attribute_no_text Text h = absurd (false≢true h)
 attribute_no_text Instruction h = refl
+attribute_no_text Comment h = refl
 
 -- the rows that are counted are attributes
 counted : (rows : List Row) (n k : ℕ) → n < k → k < suc n + attr_count_of rows n → (is_attribute (row_at rows n).kind ≡ false) × (is_attribute (row_at rows k).kind ≡ true)

@@ -26,10 +26,10 @@ use Rattle.doc_laws.proofs.Links.{parent_before}
 use Rattle.doc_laws.proofs.Rooted.{lawful_rooted}
 use Rattle.doc_laws.proofs.Sound.{lawful_tree}
 use Rattle.doc_laws.proofs.Staying.{sibling_parent_later, data_stay}
-use Rattle.axis_walkers.specs.declared.ask.Ask.{Ask}
-use Rattle.axis_walkers.specs.declared.ask.Ask.TheVariants.{Memory}
-use Rattle.axis_walkers.specs.Asks.{stop_of}
-use Rattle.axis_walkers.specs.Offered.{IsMet, only_if}
+use Rattle.doc_model.specs.declared.ask.Ask.{Ask}
+use Rattle.doc_model.specs.declared.ask.Ask.TheVariants.{Memory}
+use Rattle.doc_model.specs.Asks.{stop_of}
+use Rattle.axis_walkers.specs.Offered.{Judged, IsMet, only_if}
 use Rattle.axis_walkers.proofs.Walking.{GoesUp, up_moves, up_skip, up_take, up_end, GoesDown, down_moves, down_skip, down_take, open_at}
 use Rattle.axis_walkers.proofs.Facts.{next_is, next_none_is, prev_is, prev_none_is, IsUp, ancestors_from, around_between, around_itself, around_under, parent_visible, not_before, before_on}
 
@@ -42,7 +42,7 @@ below_moves_on p q k n g j l = let r = prefix_rows p q g in ap (λ rows. is_belo
 -- ---- along siblings, upwards
 
 -- the walk comes to a visible row of the axis, whose siblings are those that are asked for
-pub record ComesTo {M : Type 0} (s t : Seen M) (n : ℕ) (a : Axis) (x : Test) (o : Option ℕ) (at : ℕ) (id : Option ℕ) (xs : List ℕ) : Type 0 where
+pub record ComesTo {M : Type 0} (s t : Seen M) (n : ℕ) (a : Axis) (x : Test) (o : Option ℕ) (at : ℕ) (id : Judged) (xs : List ℕ) : Type 0 where
   pub goes : GoesUp s t n a x at id xs
   pub there : IsJoined t.steps at
   pub visible : is_visible t.rules (rows_of t.steps) at ≡ true
@@ -50,12 +50,12 @@ pub record ComesTo {M : Type 0} (s t : Seen M) (n : ℕ) (a : Axis) (x : Test) (
   pub parent : sibling_parent (rows_of t.steps) at ≡ o
 
 -- the walk is past a row
-pub record IsPast {M : Type 0} (s t : Seen M) (n : ℕ) (a : Axis) (x : Test) (o : Option ℕ) (at : ℕ) (id : Option ℕ) (xs : List ℕ) : Type 0 where
+pub record IsPast {M : Type 0} (s t : Seen M) (n : ℕ) (a : Axis) (x : Test) (o : Option ℕ) (at : ℕ) (id : Judged) (xs : List ℕ) : Type 0 where
   pub goes : GoesUp s t n a x (suc at) id xs
   pub there : IsJoined t.steps at
   pub parent : sibling_parent (rows_of t.steps) at ≡ o
 
-pub passed : {M : Type 0} (s t u : Seen M) (n : ℕ) (a : Axis) (x : Test) (o : Option ℕ) (at : ℕ) (id id2 : Option ℕ) (xs ys : List ℕ) → ComesTo s t n a x o at id xs → Moves t u
+pub passed : {M : Type 0} (s t u : Seen M) (n : ℕ) (a : Axis) (x : Test) (o : Option ℕ) (at : ℕ) (id id2 : Judged) (xs ys : List ℕ) → ComesTo s t n a x o at id xs → Moves t u
     → IsMet u (meets (principal_of a) x) id2 → ys ≡ xs ++ only_if (meets (principal_of a) x (row_at (rows_of u.steps) at)) at → IsPast s u n a x o at id2 ys
 passed s t u n a x o at id id2 xs ys w m k e = record {
   goes = up_take s t u n a x at id id2 xs ys w.goes m w.there w.visible w.on k e;
@@ -63,7 +63,7 @@ passed s t u n a x o at id id2 xs ys w m k e = record {
   parent = sibling_parent_moves t.steps u.steps at m.grows w.there ∙ w.parent;
 }
 
-past_moves : {M : Type 0} (s t u : Seen M) (n : ℕ) (a : Axis) (x : Test) (o : Option ℕ) (at : ℕ) (id : Option ℕ) (xs : List ℕ) → IsPast s t n a x o at id xs → Moves t u → IsPast s u n a x o at id xs
+past_moves : {M : Type 0} (s t u : Seen M) (n : ℕ) (a : Axis) (x : Test) (o : Option ℕ) (at : ℕ) (id : Judged) (xs : List ℕ) → IsPast s t n a x o at id xs → Moves t u → IsPast s u n a x o at id xs
 past_moves s t u n a x o at id xs w m = record {
   goes = up_moves s t u n a x (suc at) id xs w.goes m;
   there = joined_grows t.steps u.steps at m.grows w.there;
@@ -75,7 +75,7 @@ pub record IsSiblings (rules : List StripRule) (rows : List Row) (n : ℕ) (a : 
   pub off : (i : ℕ) → (is_visible rules rows i && is_child_of_some rows o i) ≡ false → is_selected rules rows n a x i ≡ false
   pub on : (i : ℕ) → from ≤ i → is_child_of_some rows o i ≡ true → is_on a rows n i ≡ true
 
-pub next_comes : {M : Type 0} (s t u : Seen M) (n : ℕ) (a : Axis) (x : Test) (o : Option ℕ) (at k : ℕ) (id : Option ℕ) (xs : List ℕ) → IsPast s t n a x o at id xs → Moves t u
+pub next_comes : {M : Type 0} (s t u : Seen M) (n : ℕ) (a : Axis) (x : Test) (o : Option ℕ) (at k : ℕ) (id : Judged) (xs : List ℕ) → IsPast s t n a x o at id xs → Moves t u
     → IsSiblings u.rules (rows_of u.steps) n a x o (suc at) → next_shown u.rules (rows_of u.steps) at ≡ Some k → ComesTo s u n a x o k id xs
 next_comes s t u n a x o at k id xs w m i h =
     let v = past_moves s t u n a x o at id xs w m in
@@ -88,14 +88,14 @@ next_comes s t u n a x o at k id xs w m i h =
       parent = r.parent;
     }
 
-pub next_less : {M : Type 0} (s t u : Seen M) (n : ℕ) (a : Axis) (x : Test) (o : Option ℕ) (at k : ℕ) (id : Option ℕ) (xs : List ℕ) → IsPast s t n a x o at id xs → Moves t u
+pub next_less : {M : Type 0} (s t u : Seen M) (n : ℕ) (a : Axis) (x : Test) (o : Option ℕ) (at k : ℕ) (id : Judged) (xs : List ℕ) → IsPast s t n a x o at id xs → Moves t u
     → next_shown u.rules (rows_of u.steps) at ≡ Some k → (at < k) × IsJoined u.steps k
 next_less s t u n a x o at k id xs w m h =
     let v = past_moves s t u n a x o at id xs w m in
     let r = next_is u.rules (rows_of u.steps) o at k v.there v.parent h in
     (r.above, r.within)
 
-pub next_ends : {M : Type 0} (s t u : Seen M) (n : ℕ) (a : Axis) (x : Test) (o : Option ℕ) (at : ℕ) (id : Option ℕ) (xs : List ℕ) → IsPast s t n a x o at id xs → Moves t u
+pub next_ends : {M : Type 0} (s t u : Seen M) (n : ℕ) (a : Axis) (x : Test) (o : Option ℕ) (at : ℕ) (id : Judged) (xs : List ℕ) → IsPast s t n a x o at id xs → Moves t u
     → IsSiblings u.rules (rows_of u.steps) n a x o (suc at) → is_reverse a ≡ false → need_of a (rows_of u.steps) n ≡ o
     → next_shown u.rules (rows_of u.steps) at ≡ None → is_settled u.steps (sibling_parent (rows_of u.steps) at) ≡ true → axis_of u.rules u.steps n a x ≡ Known xs
 next_ends s t u n a x o at id xs w m i f e h c =
@@ -103,7 +103,7 @@ next_ends s t u n a x o at id xs w m i f e h c =
     up_end s u n a x (suc at) id xs v.goes f (ap (is_settled u.steps) (e ∙ sym v.parent) ∙ c)
     (λ j b d. i.off j (next_none_is u.rules (rows_of u.steps) o at v.there v.parent h j b d))
 
-pub next_waits : {M : Type 0} (s t u : Seen M) (n : ℕ) (a : Axis) (x : Test) (m at : ℕ) (id : Option ℕ) (xs : List ℕ) (rules : List StripRule) → IsPast s t n a x (Some m) at id xs
+pub next_waits : {M : Type 0} (s t u : Seen M) (n : ℕ) (a : Axis) (x : Test) (m at : ℕ) (id : Judged) (xs : List ℕ) (rules : List StripRule) → IsPast s t n a x (Some m) at id xs
     → ((p : List Step) → Grows t.steps p → need_of a (rows_of p) n ≡ Some m)
     → AtStep t.steps u.steps (λ p. (next_shown rules (rows_of p) at ≡ None) × (is_settled p (sibling_parent (rows_of p) at) ≡ false))
     → AtStep s.steps u.steps (λ p. axis_of rules p n a x ≡ Open m)
@@ -118,14 +118,14 @@ next_waits s t u n a x m at id xs rules w f h =
 -- ---- along ancestors
 
 -- the walk comes to an ancestor, or is over
-abbrev pub Climbs : {M : Type 0} → Seen M → Seen M → ℕ → Axis → Test → Option ℕ → List ℕ → Option ℕ → Type 0
+abbrev pub Climbs : {M : Type 0} → Seen M → Seen M → ℕ → Axis → Test → Judged → List ℕ → Option ℕ → Type 0
 Climbs s t n a x id xs None = GoesDown s t n a x 0 id xs
 Climbs s t n a x id xs (Some k) = GoesDown s t n a x (suc k) id xs × (is_below (rows_of t.steps) k n ≡ true) × (is_visible t.rules (rows_of t.steps) k ≡ true)
 
 up_moves_on : (p q : List Step) (n at : ℕ) → Grows p q → IsJoined p at → IsJoined p n → IsUp (rows_of p) n at → IsUp (rows_of q) n at
 up_moves_on p q n at g j l u = elim u [ inl e ↦ inl e | inr b ↦ inr (below_moves_on p q at n g j l ∙ b) ]
 
-pub climb : {M : Type 0} (s t u : Seen M) (n : ℕ) (a : Axis) (x : Test) (at : ℕ) (id : Option ℕ) (xs : List ℕ) (o : Option ℕ) → ((rows : List Row) (k : ℕ) → k < n → is_on a rows n k ≡ is_below rows k n)
+pub climb : {M : Type 0} (s t u : Seen M) (n : ℕ) (a : Axis) (x : Test) (at : ℕ) (id : Judged) (xs : List ℕ) (o : Option ℕ) → ((rows : List Row) (k : ℕ) → k < n → is_on a rows n k ≡ is_below rows k n)
     → GoesDown s t n a x at id xs → at ≤ n → IsUp (rows_of t.steps) n at → Moves t u → parent_of (rows_of u.steps) at ≡ o → Climbs s u n a x id xs o
 climb s t u n a x at id xs None f w l up m e =
     let v = down_moves s t u n a x at id xs w m in
@@ -150,7 +150,7 @@ climb s t u n a x at id xs (Some k) f w l up m e =
     )
 
 -- the ancestor was offered, and the next one is asked for
-pub climbed : {M : Type 0} (s t u v : Seen M) (n : ℕ) (a : Axis) (x : Test) (k : ℕ) (id id2 : Option ℕ) (xs ys : List ℕ) (o : Option ℕ) → ((rows : List Row) (k : ℕ) → k < n → is_on a rows n k ≡ is_below rows k n)
+pub climbed : {M : Type 0} (s t u v : Seen M) (n : ℕ) (a : Axis) (x : Test) (k : ℕ) (id id2 : Judged) (xs ys : List ℕ) (o : Option ℕ) → ((rows : List Row) (k : ℕ) → k < n → is_on a rows n k ≡ is_below rows k n)
     → Climbs s t n a x id xs (Some k) → k < n → Moves t u → IsMet u (meets (principal_of a) x) id2 → ys ≡ xs ++ only_if (meets (principal_of a) x (row_at (rows_of u.steps) k)) k
     → Moves u v → parent_of (rows_of v.steps) k ≡ o → Climbs s v n a x id2 ys o
 climbed s t u v n a x k id id2 xs ys o f w l m i e m2 h =
@@ -161,13 +161,13 @@ climbed s t u v n a x k id id2 xs ys o f w l m i e m2 h =
 -- ---- along siblings, downwards
 
 -- the walk comes to a visible sibling, or is over
-abbrev pub Backs : {M : Type 0} → Seen M → Seen M → ℕ → Axis → Test → Option ℕ → List ℕ → Option ℕ → Type 0
+abbrev pub Backs : {M : Type 0} → Seen M → Seen M → ℕ → Axis → Test → Judged → List ℕ → Option ℕ → Type 0
 Backs s t n a x id xs None = GoesDown s t n a x 0 id xs
 Backs s t n a x id xs (Some k) =
     GoesDown s t n a x (suc k) id xs × (is_visible t.rules (rows_of t.steps) k ≡ true) × (is_child_of_some (rows_of t.steps) (sibling_parent (rows_of t.steps) n) k ≡ true)
     × (sibling_parent (rows_of t.steps) k ≡ sibling_parent (rows_of t.steps) n) × (k < n)
 
-pub back : {M : Type 0} (s t u : Seen M) (n : ℕ) (x : Test) (at : ℕ) (id : Option ℕ) (xs : List ℕ) (o : Option ℕ) → GoesDown s t n axis.PrecedingSibling x at id xs → at ≤ n
+pub back : {M : Type 0} (s t u : Seen M) (n : ℕ) (x : Test) (at : ℕ) (id : Judged) (xs : List ℕ) (o : Option ℕ) → GoesDown s t n axis.PrecedingSibling x at id xs → at ≤ n
     → sibling_parent (rows_of t.steps) at ≡ sibling_parent (rows_of t.steps) n → Moves t u → prev_shown u.rules (rows_of u.steps) at ≡ o → Backs s u n axis.PrecedingSibling x id xs o
 back s t u n x at id xs None w l p m e =
     let there : IsJoined t.steps at = omega (arith, l, w.joined) in
@@ -187,7 +187,7 @@ back s t u n x at id xs (Some k) w l p m e =
     )
 
 -- the sibling was offered, and the one before it is asked for
-pub backed : {M : Type 0} (s t u v : Seen M) (n : ℕ) (x : Test) (k : ℕ) (id id2 : Option ℕ) (xs ys : List ℕ) (o : Option ℕ)
+pub backed : {M : Type 0} (s t u v : Seen M) (n : ℕ) (x : Test) (k : ℕ) (id id2 : Judged) (xs ys : List ℕ) (o : Option ℕ)
     → Backs s t n axis.PrecedingSibling x id xs (Some k) → Moves t u → IsMet u (meets Element x) id2 → ys ≡ xs ++ only_if (meets Element x (row_at (rows_of u.steps) k)) k
     → Moves u v → prev_shown v.rules (rows_of v.steps) k ≡ o → Backs s v n axis.PrecedingSibling x id2 ys o
 backed s t u v n x k id id2 xs ys o w m i e m2 h =
@@ -277,7 +277,7 @@ parent_or_none rows n m e = elim (cases_Bool (is_attribute (row_at rows n).kind)
   | inr f ↦ inr (ap (λ b. cond b None (parent_of rows n)) f ∙ e)
 ]
 
-pub sibling_waits : {M : Type 0} (s t u : Seen M) (n : ℕ) (x : Test) (m at : ℕ) (id : Option ℕ) (xs : List ℕ) (rules : List StripRule) (o : Option ℕ) → IsPast s t n axis.FollowingSibling x o at id xs → IsJoined s.steps n
+pub sibling_waits : {M : Type 0} (s t u : Seen M) (n : ℕ) (x : Test) (m at : ℕ) (id : Judged) (xs : List ℕ) (rules : List StripRule) (o : Option ℕ) → IsPast s t n axis.FollowingSibling x o at id xs → IsJoined s.steps n
     → sibling_parent (rows_of s.steps) n ≡ o → (o ≡ None) ⊎ (o ≡ Some m)
     → AtStep t.steps u.steps (λ p. (next_shown rules (rows_of p) at ≡ None) × (is_settled p (sibling_parent (rows_of p) at) ≡ false))
     → AtStep s.steps u.steps (λ p. axis_of rules p n axis.FollowingSibling x ≡ Open m)

@@ -1,11 +1,11 @@
 -- What is known of a type number, and what a row gives.
-use Rattle.std.proofs.Common.{◌≡◌, ℕ, ◌+◌, ◌-◌, ◌≤◌, Bool, true, false, not, ◌&&◌, List, [], ◌∷◌, ◌++◌, length, Option, Some, None, Result, Ok, Err, filter, get_or, refl, ap, sym, ◌∙◌, subst, arith}
-use Rattle.std.proofs.lemmas.Bool.{and_left, and_right, false≢true}
+use Rattle.std.proofs.Common.{◌≡◌, ℕ, ◌+◌, ◌-◌, ◌<◌, ◌≤◌, Bool, true, false, not, ◌&&◌, List, [], ◌∷◌, ◌++◌, length, Option, Some, None, Result, Ok, Err, filter, get_or, refl, ap, sym, ◌∙◌, arith, cond, inl, inr}
+use Rattle.std.proofs.lemmas.Bool.{and_left, and_right, cases_eq, eq-eqb, ne_eqb, false≢true}
 use Rattle.std.proofs.lemmas.List.{get_or_append_left}
 use Rattle.std.specs.Prelude.{bytes_eq, OnOk}
 use Rattle.doc_model.specs.declared.node_test.Test.{Test}
 use Rattle.doc_model.specs.declared.row.Kind.{Kind}
-use Rattle.doc_model.specs.declared.row.Kind.TheVariants.{Root, Element, Attribute, Text, Instruction}
+use Rattle.doc_model.specs.declared.row.Kind.TheVariants.{Root, Element, Attribute, Text, Instruction, Comment, Comment}
 use Rattle.doc_model.specs.declared.row.Row.{Row}
 use Rattle.doc_model.specs.declared.step.Step.{Step}
 use Rattle.doc_model.specs.declared.strip_rule.StripRule.{StripRule}
@@ -13,15 +13,14 @@ use Rattle.doc_model.specs.Axes.{is_node}
 use Rattle.doc_model.specs.Document.{is_attribute}
 use Rattle.doc_model.specs.Lawful.{Grows, IsJoined}
 use Rattle.doc_model.specs.NodeTests.{is_kind, meets}
-use Rattle.doc_model.specs.Relations.{numbers, parent_of, is_some_of}
+use Rattle.doc_model.specs.Relations.{numbers, parent_of}
 use Rattle.doc_model.specs.Rows.{rows_of, row_at}
 use Rattle.doc_model.specs.Strip.{is_named, is_visible, is_blank, is_text, all_white, has_part, strips, row_or_root, keeps_space}
 use Rattle.doc_model.specs.View.{Seen, IsSeen, IsSameType, Moves}
 use Rattle.doc_laws.proofs.Growth.{prefix_rows, joined_grows, row_at_grows}
-use Rattle.doc_laws.proofs.Kids.{is_some_of-true}
 use Rattle.doc_laws.proofs.Numbers.{filter_same, filter-split}
 use Rattle.doc_laws.proofs.Visible.{visible_grows}
-use Rattle.axis_walkers.specs.Offered.{IsMet, only_if, is_plain}
+use Rattle.axis_walkers.specs.Offered.{Judged, judged_at, with_judged, KnowsNothing, IsMet, only_if, is_plain}
 
 pub row_later : (p q : List Step) (k : ℕ) → Grows p q → IsJoined p k → row_at (rows_of q) k ≡ row_at (rows_of p) k
 row_later p q k g j = let r = prefix_rows p q g in ap (λ rows. row_at rows k) r.1 ∙ row_at_grows (rows_of p) r.0 k j
@@ -32,18 +31,43 @@ visible_later rules p q k g j = let r = prefix_rows p q g in ap (λ rows. is_vis
 pub type_later : {M : Type 0} (s t : Seen M) (k : ℕ) → IsSeen s → Moves s t → IsJoined s.steps k → get_or t.types k 0 ≡ get_or s.types k 0
 type_later s t k i m j = ap (λ xs. get_or xs k 0) (sym m.types_grow.1) ∙ get_or_append_left s.types m.types_grow.0 0 k (omega (arith, i.types.count, j))
 
-pub met_moves : {M : Type 0} (s t : Seen M) (test : Row → Bool) (met : Option ℕ) → IsSeen s → Moves s t → IsMet s test met → IsMet t test met
-met_moves s t test None i m h = tt
-met_moves s t test (Some id) i m h = (
-  h.0,
-  joined_grows s.steps t.steps (h.0) m.grows h.1,
-  type_later s t (h.0) i m h.1 ∙ h.2,
-  ap test (row_later s.steps t.steps (h.0) m.grows h.1) ∙ h.3,
-)
+pub met_moves : {M : Type 0} (s t : Seen M) (test : Row → Bool) (met : Judged) → IsSeen s → Moves s t → IsMet s test met → IsMet t test met
+met_moves s t test met i m h = record {
+  row = λ id passes e.
+      let r = h.row id passes e in (
+        r.0,
+        joined_grows s.steps t.steps (r.0) m.grows r.1,
+        type_later s t (r.0) i m r.1 ∙ r.2,
+        ap test (row_later s.steps t.steps (r.0) m.grows r.1) ∙ r.3,
+      );
+}
 
--- a row of a type that is known to meet the test meets it
-met_hit : {M : Type 0} (s : Seen M) (test : Row → Bool) (id k : ℕ) → ((a b : Row) → IsSameType a b → test a ≡ test b) → IsSeen s → IsJoined s.steps k → IsMet s test (Some id) → id ≡ get_or s.types k 0 → test (row_at (rows_of s.steps) k) ≡ true
-met_hit s test id k same i j h e = sym (same (row_at (rows_of s.steps) (h.0)) (row_at (rows_of s.steps) k) (i.types.same (h.0) k h.1 j (h.2 ∙ e))) ∙ h.3
+-- what is known stays where the same types are judged
+pub met_same : {M : Type 0} (s : Seen M) (test : Row → Bool) (met other : Judged) → ((k : ℕ) → judged_at other k ≡ judged_at met k) → IsMet s test met → IsMet s test other
+met_same s test met other same h = record { row = λ id passes e. h.row id passes (sym (same id) ∙ e) }
+
+-- one more type is judged, by a row
+pub met_more : {M : Type 0} (s : Seen M) (test : Row → Bool) (met other : Judged) (id k : ℕ) (passes : Bool) → ((j : ℕ) → judged_at other j ≡ with_judged met id passes j)
+    → IsJoined s.steps k → get_or s.types k 0 ≡ id → test (row_at (rows_of s.steps) k) ≡ passes → IsMet s test met → IsMet s test other
+met_more s test met other id k passes new j t p h = record { row = λ at known e. judge at known e }
+  where
+    some_same : (a b : Bool) → Some a ≡ Some b → a ≡ b
+    some_same a b h = cc
+
+    judge : (at : ℕ) (known : Bool) → judged_at other at ≡ Some known → (n : ℕ) × (n < length (rows_of s.steps)) × (get_or s.types n 0 ≡ at) × (test (row_at (rows_of s.steps) n) ≡ known)
+    judge at known e = elim (cases_eq at id) [
+      | inl same ↦
+          let is : Some known ≡ Some passes = sym e ∙ new at ∙ ap (λ b. cond b (Some passes) (judged_at met at)) (eq-eqb at id same) in
+          (k, j, t ∙ sym same, p ∙ sym (some_same known passes is))
+      | inr other_one ↦ h.row at known (sym (new at ∙ ap (λ b. cond b (Some passes) (judged_at met at)) (ne_eqb at id other_one)) ∙ e)
+    ]
+
+-- a row of a type that is judged meets the test, or not, as the type does
+met_hit : {M : Type 0} (s : Seen M) (test : Row → Bool) (met : Judged) (id k : ℕ) (passes : Bool) → ((a b : Row) → IsSameType a b → test a ≡ test b) → IsSeen s → IsJoined s.steps k → IsMet s test met
+    → judged_at met id ≡ Some passes → id ≡ get_or s.types k 0 → test (row_at (rows_of s.steps) k) ≡ passes
+met_hit s test met id k passes same i j h e t =
+    let r = h.row id passes e in
+    sym (same (row_at (rows_of s.steps) (r.0)) (row_at (rows_of s.steps) k) (i.types.same (r.0) k r.1 j (r.2 ∙ t))) ∙ r.3
 
 -- a name and a kind
 abbrev pub named_row : List ℕ → Option (List ℕ) → Kind → Row → Bool
@@ -55,8 +79,9 @@ named_same uri local kind a b s =
     ∙ ap (λ x. (bytes_eq b.uri uri && has_part local x) && is_kind kind a.kind) s.local
     ∙ ap (λ x. (bytes_eq b.uri uri && has_part local b.local) && is_kind kind x) s.kind
 
-pub named_hit : {M : Type 0} (s : Seen M) (uri : List ℕ) (local : Option (List ℕ)) (kind : Kind) (met : Option ℕ) (id k : ℕ) → IsSeen s → IsJoined s.steps k → IsMet s (named_row uri local kind) met → is_some_of met id ≡ true → id ≡ get_or s.types k 0 → named_row uri local kind (row_at (rows_of s.steps) k) ≡ true
-named_hit s uri local kind met id k i j h e t = met_hit s (named_row uri local kind) id k (named_same uri local kind) i j (subst (λ o. IsMet s (named_row uri local kind) o) (is_some_of-true met id e) h) t
+pub named_hit : {M : Type 0} (s : Seen M) (uri : List ℕ) (local : Option (List ℕ)) (kind : Kind) (met : Judged) (id k : ℕ) (passes : Bool) → IsSeen s → IsJoined s.steps k → IsMet s (named_row uri local kind) met
+    → judged_at met id ≡ Some passes → id ≡ get_or s.types k 0 → named_row uri local kind (row_at (rows_of s.steps) k) ≡ passes
+named_hit s uri local kind met id k passes i j h e t = met_hit s (named_row uri local kind) met id k passes (named_same uri local kind) i j h e t
 
 -- a row whose kind is asked for is visible, and no attribute
 pub visible_unless_text : (rules : List StripRule) (rows : List Row) (k : ℕ) → is_text (row_at rows k).kind ≡ false → is_visible rules rows k ≡ true
@@ -89,6 +114,7 @@ kind_same Element Element h = refl
 kind_same Attribute Attribute h = refl
 kind_same Text Text h = refl
 kind_same Instruction Instruction h = refl
+kind_same Comment Comment h = refl
 kind_same _ _ h = absurd (false≢true h)
 
 pub and_true : (b : Bool) → (b && true) ≡ b
@@ -108,5 +134,8 @@ shown_then s t n x (Ok u) xs ys j v m h =
     let seen : is_visible t.rules (rows_of t.steps) n ≡ true = ap (λ rules. is_visible rules (rows_of t.steps) n) m.rules_stay ∙ visible_later s.rules s.steps t.steps n m.grows j ∙ v in
     h ∙ ap (λ b. xs ++ only_if (b && meets Element x (row_at (rows_of t.steps) n)) n) (sym seen)
 
-pub met_fresh : {M : Type 0} (s : Seen M) (test : Row → Bool) (id : Option ℕ) → id ≡ None → IsMet s test id
-met_fresh s test id e = subst (λ o. IsMet s test o) (sym e) tt
+pub met_fresh : {M : Type 0} (s : Seen M) (test : Row → Bool) (met : Judged) → KnowsNothing met → IsMet s test met
+met_fresh s test met none = record { row = λ id passes e. absurd (none_some passes (sym (none.none id) ∙ e)) }
+  where
+    none_some : (passes : Bool) → None ≡ Some passes → ⊥
+    none_some passes h = cc

@@ -1,5 +1,5 @@
 -- How far a walk along an axis has come, upwards or downwards.
-use Rattle.std.proofs.Common.{◌≡◌, ℕ, suc, ◌+◌, ◌-◌, ◌<◌, ◌≤◌, Bool, true, false, cond, ◌&&◌, List, [], ◌∷◌, ◌++◌, length, Option, Some, None, filter, reverse, refl, ap, sym, ◌∙◌, subst, arith, append-nil, append_assoc}
+use Rattle.std.proofs.Common.{◌≡◌, ℕ, suc, ◌+◌, ◌-◌, ◌<◌, ◌≤◌, Bool, true, false, cond, ◌&&◌, List, [], ◌∷◌, ◌++◌, length, Option, Some, None, filter, reverse, refl, ap, sym, ◌∙◌, arith, append-nil, append_assoc}
 use Rattle.std.proofs.lemmas.Bool.{lt-ltb, not-true}
 use Rattle.std.proofs.lemmas.List.{reverse-append}
 use Rattle.doc_model.specs.declared.node_test.Test.{Test}
@@ -21,8 +21,8 @@ use Rattle.doc_laws.proofs.Known.{selected_later}
 use Rattle.doc_laws.proofs.Moving.{moves_on, moves_none}
 use Rattle.doc_laws.proofs.Numbers.{filter_same, filter_nothing, filter-split}
 use Rattle.doc_laws.proofs.Root.{length_grows}
-use Rattle.axis_walkers.specs.Offered.{IsMet, only_if, is_plain}
-use Rattle.axis_walkers.proofs.Offering.{met_moves, row_later}
+use Rattle.axis_walkers.specs.Offered.{Judged, KnowsNothing, IsMet, only_if, is_plain}
+use Rattle.axis_walkers.proofs.Offering.{met_fresh, met_moves, row_later}
 
 -- the rows below a number that are selected
 abbrev pub below : {M : Type 0} → Seen M → ℕ → Axis → Test → ℕ → List ℕ
@@ -66,7 +66,7 @@ below_moves s t n a x at j l m =
     ∙ filter_same (is_selected s.rules (rows_of t.steps) n a x) (is_selected s.rules (rows_of s.steps) n a x) 0 at (λ k b c. selected_later s.rules s.steps t.steps n a x k m.grows j (omega arith))
 
 -- a walk upwards has found what is selected below a number
-pub record GoesUp {M : Type 0} (first last : Seen M) (n : ℕ) (a : Axis) (x : Test) (at : ℕ) (id : Option ℕ) (xs : List ℕ) : Type 0 where
+pub record GoesUp {M : Type 0} (first last : Seen M) (n : ℕ) (a : Axis) (x : Test) (at : ℕ) (id : Judged) (xs : List ℕ) : Type 0 where
   pub moved : Moves first last
   pub joined : IsJoined last.steps n
   pub within : at ≤ length (rows_of last.steps)
@@ -74,20 +74,20 @@ pub record GoesUp {M : Type 0} (first last : Seen M) (n : ℕ) (a : Axis) (x : T
   pub found : xs ≡ below last n a x at
 
 -- a selection that is new
-pub record IsFresh (id : Option ℕ) (xs : List ℕ) : Type 0 where
-  pub none : id ≡ None
+pub record IsFresh (id : Judged) (xs : List ℕ) : Type 0 where
+  pub none : KnowsNothing id
   pub empty : xs ≡ []
 
-pub up_start : {M : Type 0} (s t : Seen M) (n : ℕ) (a : Axis) (x : Test) (id : Option ℕ) (xs : List ℕ) → IsFresh id xs → IsJoined s.steps n → Moves s t → GoesUp s t n a x 0 id xs
+pub up_start : {M : Type 0} (s t : Seen M) (n : ℕ) (a : Axis) (x : Test) (id : Judged) (xs : List ℕ) → IsFresh id xs → IsJoined s.steps n → Moves s t → GoesUp s t n a x 0 id xs
 up_start s t n a x id xs f j m = record {
   moved = m;
   joined = joined_grows s.steps t.steps n m.grows j;
   within = omega arith;
-  known = subst (λ o. IsMet t (meets (principal_of a) x) o) (sym f.none) tt;
+  known = met_fresh t (meets (principal_of a) x) id f.none;
   found = f.empty;
 }
 
-pub up_moves : {M : Type 0} (s t u : Seen M) (n : ℕ) (a : Axis) (x : Test) (at : ℕ) (id : Option ℕ) (xs : List ℕ) → GoesUp s t n a x at id xs → Moves t u → GoesUp s u n a x at id xs
+pub up_moves : {M : Type 0} (s t u : Seen M) (n : ℕ) (a : Axis) (x : Test) (at : ℕ) (id : Judged) (xs : List ℕ) → GoesUp s t n a x at id xs → Moves t u → GoesUp s u n a x at id xs
 up_moves s t u n a x at id xs w m = record {
   moved = moves_on s t u w.moved m;
   joined = joined_grows t.steps u.steps n m.grows w.joined;
@@ -96,7 +96,7 @@ up_moves s t u n a x at id xs w m = record {
   found = w.found ∙ sym (below_moves t u n a x at w.joined w.within m);
 }
 
-pub up_skip : {M : Type 0} (s t : Seen M) (n : ℕ) (a : Axis) (x : Test) (at to : ℕ) (id : Option ℕ) (xs : List ℕ) → GoesUp s t n a x at id xs → at ≤ to → to ≤ length (rows_of t.steps)
+pub up_skip : {M : Type 0} (s t : Seen M) (n : ℕ) (a : Axis) (x : Test) (at to : ℕ) (id : Judged) (xs : List ℕ) → GoesUp s t n a x at id xs → at ≤ to → to ≤ length (rows_of t.steps)
     → ((k : ℕ) → at ≤ k → k < to → is_selected t.rules (rows_of t.steps) n a x k ≡ false) → GoesUp s t n a x to id xs
 up_skip s t n a x at to id xs w l h f = record {
   moved = w.moved;
@@ -116,7 +116,7 @@ selected_moves t u n a x k j l m v o =
     ∙ ap (meets (principal_of a) x) (sym (row_later t.steps u.steps k m.grows l))
 
 -- the row at the number is visible and on the axis, and was offered
-pub up_take : {M : Type 0} (s t u : Seen M) (n : ℕ) (a : Axis) (x : Test) (at : ℕ) (id id2 : Option ℕ) (xs ys : List ℕ) → GoesUp s t n a x at id xs → Moves t u → IsJoined t.steps at
+pub up_take : {M : Type 0} (s t u : Seen M) (n : ℕ) (a : Axis) (x : Test) (at : ℕ) (id id2 : Judged) (xs ys : List ℕ) → GoesUp s t n a x at id xs → Moves t u → IsJoined t.steps at
     → is_visible t.rules (rows_of t.steps) at ≡ true → is_on a (rows_of t.steps) n at ≡ true
     → IsMet u (meets (principal_of a) x) id2 → ys ≡ xs ++ only_if (meets (principal_of a) x (row_at (rows_of u.steps) at)) at → GoesUp s u n a x (suc at) id2 ys
 up_take s t u n a x at id id2 xs ys w m j v o k e =
@@ -136,7 +136,7 @@ up_take s t u n a x at id id2 xs ys w m j v o k e =
 itself_is : (v m o : Bool) → o ≡ true → (v && m) ≡ (v && (m && o))
 itself_is v m o h = ap (λ y. v && y) (sym (selected_is true m o refl h))
 
-pub up_itself : {M : Type 0} (s u : Seen M) (n : ℕ) (a : Axis) (x : Test) (id id2 : Option ℕ) (xs ys : List ℕ) → GoesUp s u n a x n id xs → is_on a (rows_of u.steps) n n ≡ true
+pub up_itself : {M : Type 0} (s u : Seen M) (n : ℕ) (a : Axis) (x : Test) (id id2 : Judged) (xs ys : List ℕ) → GoesUp s u n a x n id xs → is_on a (rows_of u.steps) n n ≡ true
     → IsMet u (meets (principal_of a) x) id2 → ys ≡ xs ++ only_if (is_visible u.rules (rows_of u.steps) n && meets (principal_of a) x (row_at (rows_of u.steps) n)) n → GoesUp s u n a x (suc n) id2 ys
 up_itself s u n a x id id2 xs ys w o k e = record {
   moved = w.moved;
@@ -150,16 +150,16 @@ up_itself s u n a x id id2 xs ys w o k e = record {
 }
 
 -- the rows of a range were offered, of which just the attributes are not on the axis
-pub up_range : {M : Type 0} (s t u : Seen M) (n : ℕ) (a : Axis) (x : Test) (at to : ℕ) (id : Option ℕ) (xs ys : List ℕ) → GoesUp s t n a x at id xs → Moves t u → at ≤ to → to ≤ length (rows_of t.steps)
+pub up_range : {M : Type 0} (s t u : Seen M) (n : ℕ) (a : Axis) (x : Test) (at to : ℕ) (id : Judged) (xs ys : List ℕ) → GoesUp s t n a x at id xs → Moves t u → at ≤ to → to ≤ length (rows_of t.steps)
     → principal_of a ≡ Element → ((k : ℕ) → at ≤ k → k < to → is_on a (rows_of u.steps) n k ≡ is_node (rows_of u.steps) k)
-    → ys ≡ xs ++ filter (is_plain u.rules (rows_of u.steps) x) (numbers at (to - at)) → GoesUp s u n a x to None ys
+    → ys ≡ xs ++ filter (is_plain u.rules (rows_of u.steps) x) (numbers at (to - at)) → GoesUp s u n a x to id ys
 up_range s t u n a x at to id xs ys w m l h p o e =
     let moved = up_moves s t u n a x at id xs w m in
     record {
       moved = moved.moved;
       joined = moved.joined;
       within = omega (arith, h, length_grows t.steps u.steps m.grows);
-      known = tt;
+      known = moved.known;
       found =
           e ∙ ap (λ zs. zs ++ filter (is_plain u.rules (rows_of u.steps) x) (numbers at (to - at))) moved.found
           ∙ sym (filter_range (is_selected u.rules (rows_of u.steps) n a x) (is_plain u.rules (rows_of u.steps) x) at to l (λ k b c.
@@ -183,7 +183,7 @@ open_at rules p n m a x j e o =
     ∙ ap (λ y. once_shut p y (axis_rows rules (rows_of p) n a x)) e ∙ ap (λ b. cond b (Open m) (Known (axis_rows rules (rows_of p) n a x))) o
 
 -- the walk is over: no row at the number or past it is selected
-pub up_end : {M : Type 0} (s t : Seen M) (n : ℕ) (a : Axis) (x : Test) (at : ℕ) (id : Option ℕ) (xs : List ℕ) → GoesUp s t n a x at id xs → is_reverse a ≡ false → is_settled t.steps (need_of a (rows_of t.steps) n) ≡ true
+pub up_end : {M : Type 0} (s t : Seen M) (n : ℕ) (a : Axis) (x : Test) (at : ℕ) (id : Judged) (xs : List ℕ) → GoesUp s t n a x at id xs → is_reverse a ≡ false → is_settled t.steps (need_of a (rows_of t.steps) n) ≡ true
     → ((k : ℕ) → at ≤ k → k < length (rows_of t.steps) → is_selected t.rules (rows_of t.steps) n a x k ≡ false) → axis_of t.rules t.steps n a x ≡ Known xs
 up_end s t n a x at id xs w r h f =
     known_at t.rules t.steps n a x xs w.joined h
@@ -191,23 +191,23 @@ up_end s t n a x at id xs w r h f =
     ∙ filter_skip (is_selected t.rules (rows_of t.steps) n a x) at (length (rows_of t.steps)) w.within f ∙ sym w.found)
 
 -- a walk downwards has found what is selected from a number up to the row
-pub record GoesDown {M : Type 0} (first last : Seen M) (n : ℕ) (a : Axis) (x : Test) (at : ℕ) (id : Option ℕ) (xs : List ℕ) : Type 0 where
+pub record GoesDown {M : Type 0} (first last : Seen M) (n : ℕ) (a : Axis) (x : Test) (at : ℕ) (id : Judged) (xs : List ℕ) : Type 0 where
   pub moved : Moves first last
   pub joined : IsJoined last.steps n
   pub within : at ≤ suc n
   pub known : IsMet last (meets (principal_of a) x) id
   pub rest : xs ++ reverse (below last n a x at) ≡ reverse (below last n a x (suc n))
 
-pub down_start : {M : Type 0} (s t : Seen M) (n : ℕ) (a : Axis) (x : Test) (id : Option ℕ) (xs : List ℕ) → IsFresh id xs → IsJoined s.steps n → Moves s t → GoesDown s t n a x (suc n) id xs
+pub down_start : {M : Type 0} (s t : Seen M) (n : ℕ) (a : Axis) (x : Test) (id : Judged) (xs : List ℕ) → IsFresh id xs → IsJoined s.steps n → Moves s t → GoesDown s t n a x (suc n) id xs
 down_start s t n a x id xs f j m = record {
   moved = m;
   joined = joined_grows s.steps t.steps n m.grows j;
   within = omega arith;
-  known = subst (λ o. IsMet t (meets (principal_of a) x) o) (sym f.none) tt;
+  known = met_fresh t (meets (principal_of a) x) id f.none;
   rest = ap (λ ys. ys ++ reverse (below t n a x (suc n))) f.empty;
 }
 
-pub down_moves : {M : Type 0} (s t u : Seen M) (n : ℕ) (a : Axis) (x : Test) (at : ℕ) (id : Option ℕ) (xs : List ℕ) → GoesDown s t n a x at id xs → Moves t u → GoesDown s u n a x at id xs
+pub down_moves : {M : Type 0} (s t u : Seen M) (n : ℕ) (a : Axis) (x : Test) (at : ℕ) (id : Judged) (xs : List ℕ) → GoesDown s t n a x at id xs → Moves t u → GoesDown s u n a x at id xs
 down_moves s t u n a x at id xs w m =
     let l : at ≤ length (rows_of t.steps) = omega (arith, w.within, w.joined) in
     record {
@@ -218,7 +218,7 @@ down_moves s t u n a x at id xs w m =
       rest = ap (λ ys. xs ++ reverse ys) (below_moves t u n a x at w.joined l m) ∙ w.rest ∙ ap reverse (sym (below_moves t u n a x (suc n) w.joined w.joined m));
     }
 
-pub down_skip : {M : Type 0} (s t : Seen M) (n : ℕ) (a : Axis) (x : Test) (at to : ℕ) (id : Option ℕ) (xs : List ℕ) → GoesDown s t n a x at id xs → to ≤ at
+pub down_skip : {M : Type 0} (s t : Seen M) (n : ℕ) (a : Axis) (x : Test) (at to : ℕ) (id : Judged) (xs : List ℕ) → GoesDown s t n a x at id xs → to ≤ at
     → ((k : ℕ) → to ≤ k → k < at → is_selected t.rules (rows_of t.steps) n a x k ≡ false) → GoesDown s t n a x to id xs
 down_skip s t n a x at to id xs w l f = record {
   moved = w.moved;
@@ -233,7 +233,7 @@ down_on : (f : ℕ → Bool) (k : ℕ) → reverse (filter f (numbers 0 (suc k))
 down_on f k = ap reverse (filter_on f k) ∙ reverse-append (filter f (numbers 0 k)) (only_if (f k) k) ∙ ap (λ ys. ys ++ reverse (filter f (numbers 0 k))) (reverse_one (f k) k)
 
 -- the row below the number was given as far as it is selected
-pub down_give : {M : Type 0} (s t u : Seen M) (n : ℕ) (a : Axis) (x : Test) (k : ℕ) (id id2 : Option ℕ) (xs ys : List ℕ) → GoesDown s t n a x (suc k) id xs → Moves t u
+pub down_give : {M : Type 0} (s t u : Seen M) (n : ℕ) (a : Axis) (x : Test) (k : ℕ) (id id2 : Judged) (xs ys : List ℕ) → GoesDown s t n a x (suc k) id xs → Moves t u
     → IsMet u (meets (principal_of a) x) id2 → ys ≡ xs ++ only_if (is_selected u.rules (rows_of u.steps) n a x k) k → GoesDown s u n a x k id2 ys
 down_give s t u n a x k id id2 xs ys w m i e =
     let moved = down_moves s t u n a x (suc k) id xs w m in
@@ -248,20 +248,20 @@ down_give s t u n a x k id id2 xs ys w m i e =
           ∙ ap (λ zs. xs ++ zs) (sym (down_on (is_selected u.rules (rows_of u.steps) n a x) k)) ∙ moved.rest;
     }
 
-pub down_take : {M : Type 0} (s t u : Seen M) (n : ℕ) (a : Axis) (x : Test) (k : ℕ) (id id2 : Option ℕ) (xs ys : List ℕ) → GoesDown s t n a x (suc k) id xs → Moves t u
+pub down_take : {M : Type 0} (s t u : Seen M) (n : ℕ) (a : Axis) (x : Test) (k : ℕ) (id id2 : Judged) (xs ys : List ℕ) → GoesDown s t n a x (suc k) id xs → Moves t u
     → is_visible t.rules (rows_of t.steps) k ≡ true → is_on a (rows_of t.steps) n k ≡ true
     → IsMet u (meets (principal_of a) x) id2 → ys ≡ xs ++ only_if (meets (principal_of a) x (row_at (rows_of u.steps) k)) k → GoesDown s u n a x k id2 ys
 down_take s t u n a x k id id2 xs ys w m v o i e =
     let l : IsJoined t.steps k = omega (arith, w.within, w.joined) in
     down_give s t u n a x k id id2 xs ys w m i (e ∙ ap (λ b. xs ++ only_if b k) (sym (selected_moves t u n a x k w.joined l m v o)))
 
-pub down_itself : {M : Type 0} (s u : Seen M) (n : ℕ) (a : Axis) (x : Test) (id id2 : Option ℕ) (xs ys : List ℕ) → GoesDown s u n a x (suc n) id xs → is_on a (rows_of u.steps) n n ≡ true
+pub down_itself : {M : Type 0} (s u : Seen M) (n : ℕ) (a : Axis) (x : Test) (id id2 : Judged) (xs ys : List ℕ) → GoesDown s u n a x (suc n) id xs → is_on a (rows_of u.steps) n n ≡ true
     → IsMet u (meets (principal_of a) x) id2 → ys ≡ xs ++ only_if (is_visible u.rules (rows_of u.steps) n && meets (principal_of a) x (row_at (rows_of u.steps) n)) n → GoesDown s u n a x n id2 ys
 down_itself s u n a x id id2 xs ys w o k e = down_give s u u n a x n id id2 xs ys w (moves_none u w.moved.seen) k
     (e ∙ ap (λ b. xs ++ only_if b n) (itself_is (is_visible u.rules (rows_of u.steps) n) (meets (principal_of a) x (row_at (rows_of u.steps) n)) (is_on a (rows_of u.steps) n n) o))
 
 -- the row is a node of the axis, unless it is an attribute
-pub down_plain : {M : Type 0} (s t u : Seen M) (n : ℕ) (a : Axis) (x : Test) (k : ℕ) (id id2 : Option ℕ) (xs ys : List ℕ) → GoesDown s t n a x (suc k) id xs → Moves t u
+pub down_plain : {M : Type 0} (s t u : Seen M) (n : ℕ) (a : Axis) (x : Test) (k : ℕ) (id id2 : Judged) (xs ys : List ℕ) → GoesDown s t n a x (suc k) id xs → Moves t u
     → principal_of a ≡ Element → is_on a (rows_of u.steps) n k ≡ is_node (rows_of u.steps) k
     → IsMet u (meets (principal_of a) x) id2 → ys ≡ xs ++ only_if (is_plain u.rules (rows_of u.steps) x k) k → GoesDown s u n a x k id2 ys
 down_plain s t u n a x k id id2 xs ys w m p o i e = down_give s t u n a x k id id2 xs ys w m i
@@ -269,7 +269,7 @@ down_plain s t u n a x k id id2 xs ys w m p o i e = down_give s t u n a x k id i
     (ap (λ y. is_visible u.rules (rows_of u.steps) k && (meets y x (row_at (rows_of u.steps) k) && is_node (rows_of u.steps) k)) (sym p)
     ∙ ap (λ y. is_visible u.rules (rows_of u.steps) k && (meets (principal_of a) x (row_at (rows_of u.steps) k) && y)) (sym o)))
 
-pub down_end : {M : Type 0} (s t : Seen M) (n : ℕ) (a : Axis) (x : Test) (id : Option ℕ) (xs : List ℕ) → GoesDown s t n a x 0 id xs → is_reverse a ≡ true → is_settled t.steps (need_of a (rows_of t.steps) n) ≡ true
+pub down_end : {M : Type 0} (s t : Seen M) (n : ℕ) (a : Axis) (x : Test) (id : Judged) (xs : List ℕ) → GoesDown s t n a x 0 id xs → is_reverse a ≡ true → is_settled t.steps (need_of a (rows_of t.steps) n) ≡ true
     → ((k : ℕ) → suc n ≤ k → k < length (rows_of t.steps) → is_selected t.rules (rows_of t.steps) n a x k ≡ false) → axis_of t.rules t.steps n a x ≡ Known xs
 down_end s t n a x id xs w r h f =
     let g = is_selected t.rules (rows_of t.steps) n a x in

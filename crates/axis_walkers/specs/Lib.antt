@@ -1,3 +1,2 @@
-pub mod Asks
 pub mod Offered
 pub mod Streams

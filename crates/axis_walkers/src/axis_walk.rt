@@ -3,10 +3,9 @@ ghost use Rattle.doc_model.specs.Answers.{Answers};
 ghost use Rattle.doc_model.specs.Axes.{axis_of};
 ghost use Rattle.doc_model.specs.Lawful.{IsJoined};
 ghost use Rattle.doc_model.specs.View.{Moves};
-ghost use Rattle.axis_walkers.specs.Asks.{stop_of};
+ghost use Rattle.doc_model.specs.Asks.{stop_of};
 
 use crate::ancestors::{ancestors, ancestors_or_self};
-use crate::ask::Ask;
 use crate::attributes::attributes;
 use crate::children::children;
 use crate::descendants::{descendants, descendants_or_self};
@@ -15,7 +14,7 @@ use crate::itself::itself;
 use crate::parents::parents;
 use crate::preceding::preceding;
 use crate::siblings::{following_siblings, preceding_siblings};
-use doc_model::{Axis, NodeView, Test};
+use doc_model::{Ask, Axis, NodeView, Test};
 use lists::List;
 use std::alloc::Global;
 
@@ -24,8 +23,7 @@ use std::alloc::Global;
 /// and at a step of the call was not: `n` for child, descendant and descendant-or-self, its parent for
 /// following-sibling, the root for following; the other axes need none. Costs one link a row for child,
 /// the siblings and the ancestors, and an interval of rows for the others; and at most two calls a row
-/// for the test, with a third where the row has the name and the number of its type is not the last that
-/// met it.
+/// for the test, with two more for each type number that the walk comes to, whose name is asked once.
 pub fn walk<V: NodeView>(
     alloc: Global,
     view: &mut V,

@@ -4,11 +4,10 @@ ghost use Rattle.doc_model.specs.Answers.{Answers};
 ghost use Rattle.doc_model.specs.Axes.{axis_of};
 ghost use Rattle.doc_model.specs.Lawful.{IsJoined};
 ghost use Rattle.doc_model.specs.View.{Moves};
-ghost use Rattle.axis_walkers.specs.Asks.{stop_of};
+ghost use Rattle.doc_model.specs.Asks.{stop_of};
 
-use crate::ask::Ask;
 use crate::selection::Selection;
-use doc_model::{NodeView, Test};
+use doc_model::{Ask, NodeView, Test};
 use lists::List;
 use std::alloc::Global;
 

@@ -2,7 +2,6 @@
 #![tactic(auto)]
 
 mod ancestors;
-mod ask;
 mod attributes;
 mod axis_walk;
 mod child_stream;
@@ -10,15 +9,12 @@ mod children;
 mod descendants;
 mod following;
 mod itself;
+mod judged;
 mod parents;
 mod preceding;
 mod selection;
 mod siblings;
 
-pub use ask::Ask;
 pub use axis_walk::walk;
 pub use child_stream::{ChildStream, streams_stay};
-pub use doc_model::{Axis, Test};
-
-#[cfg(test)]
-mod tests;
+pub use doc_model::{Ask, Axis, Test};

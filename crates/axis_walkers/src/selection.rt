@@ -7,28 +7,30 @@ ghost use Rattle.doc_model.specs.Relations.{is_some_of, numbers};
 ghost use Rattle.doc_model.specs.Rows.{rows_of, row_at};
 ghost use Rattle.doc_model.specs.Strip.{is_named, is_visible};
 ghost use Rattle.doc_model.specs.View.{IsSeen, Moves, part_of};
-ghost use Rattle.axis_walkers.specs.Offered.{IsMet, only_if, is_plain};
+ghost use Rattle.axis_walkers.specs.Offered.{IsMet, KnowsNothing, only_if, is_plain};
 
+use crate::judged::{keep, known, no_types};
 use doc_model::{Kind, NodeView, Test};
 use lists::List;
 use std::alloc::{AllocError, Global};
+use std::collections::BTreeMap;
 
 /// The rows of an axis that a walk has found so far.
 #[derive(Drop)]
 pub(crate) struct Selection {
     rows: List<u32>,
-    // the number of a type that meets the test: a row of this type is known without its name
-    met: Option<u32>,
+    // the types that were judged: a row of one of these is known without its name
+    met: BTreeMap<u32, bool>,
 }
 
 impl Selection {
     pub(crate) fn new(alloc: Global) -> Selection
         ensures rows { result.rows ≡ [] }
-        ensures met { result.met ≡ None }
+        ensures met { KnowsNothing result.met }
     {
         Selection {
             rows: List::new(alloc),
-            met: None,
+            met: no_types(alloc),
         }
     }
 
@@ -54,7 +56,7 @@ impl Selection {
         ensures met { IsMet (V.sees view.new) (meets principal test.now) self.new.met }
         ensures rows { OnOk result (self.new.rows ≡ self.old.rows ++ only_if (meets principal test.now (row_at (rows_of (V.sees view.new).steps) k)) k) }
     {
-        if meets(view, k, principal, test, &mut self.met) {
+        if meets(view, k, principal, test, &mut self.met)? {
             self.rows.push(k)?;
         }
         Ok(())
@@ -68,7 +70,7 @@ impl Selection {
         test: &Test,
     ) -> Result<(), AllocError>
         requires joined { IsJoined (V.sees view.old).steps n }
-        requires fresh { self.old.met ≡ None }
+        requires fresh { KnowsNothing self.old.met }
         ensures moves { Moves (V.sees view.old) (V.sees view.new) }
         ensures met { IsMet (V.sees view.new) (meets Element test.now) self.new.met }
         ensures rows { OnOk result (self.new.rows ≡ self.old.rows ++ only_if (is_visible (V.sees view.new).rules (rows_of (V.sees view.new).steps) n && meets Element test.now (row_at (rows_of (V.sees view.new).steps) n)) n) }
@@ -93,7 +95,7 @@ impl Selection {
         ensures met { IsMet (V.sees view.new) (meets Element test.now) self.new.met }
         ensures rows { OnOk result (self.new.rows ≡ self.old.rows ++ only_if (is_plain (V.sees view.new).rules (rows_of (V.sees view.new).steps) test.now k) k) }
     {
-        if is_plain(view, k, test, &mut self.met) {
+        if is_plain(view, k, test, &mut self.met)? {
             self.rows.push(k)?;
         }
         Ok(())
@@ -122,18 +124,24 @@ impl Selection {
 }
 
 // Whether the row is visible, no attribute, and meets the test on an axis of elements.
-fn is_plain<V: NodeView>(view: &mut V, k: u32, test: &Test, met: &mut Option<u32>) -> bool
+fn is_plain<V: NodeView>(
+    view: &mut V,
+    k: u32,
+    test: &Test,
+    met: &mut BTreeMap<u32, bool>,
+) -> Result<bool, AllocError>
     requires joined { IsJoined (V.sees view.old).steps k }
     requires seen { IsSeen (V.sees view.old) }
     requires met { IsMet (V.sees view.old) (meets Element test.now) met.old }
     ensures moves { Moves (V.sees view.old) (V.sees view.new) }
     ensures met { IsMet (V.sees view.new) (meets Element test.now) met.new }
-    ensures value { result ≡ is_plain (V.sees view.new).rules (rows_of (V.sees view.new).steps) test.now k }
+    ensures value { IfOk result (λ plain. plain ≡ is_plain (V.sees view.new).rules (rows_of (V.sees view.new).steps) test.now k) }
 {
-    if !meets(view, k, Kind::Element, test, met) {
-        return false;
+    let passes = meets(view, k, Kind::Element, test, met)?;
+    if !passes {
+        return Ok(false);
     }
-    is_shown_node(view, k, test)
+    Ok(is_shown_node(view, k, test))
 }
 
 // Whether a row that meets the test is visible and no attribute. Asks no more than the test leaves open.
@@ -167,19 +175,19 @@ fn meets<V: NodeView>(
     k: u32,
     principal: Kind,
     test: &Test,
-    met: &mut Option<u32>,
-) -> bool
+    met: &mut BTreeMap<u32, bool>,
+) -> Result<bool, AllocError>
     requires joined { IsJoined (V.sees view.old).steps k }
     requires seen { IsSeen (V.sees view.old) }
     requires met { IsMet (V.sees view.old) (meets principal test.now) met.old }
     ensures moves { Moves (V.sees view.old) (V.sees view.new) }
     ensures met { IsMet (V.sees view.new) (meets principal test.now) met.new }
-    ensures value { result ≡ meets principal test.now (row_at (rows_of (V.sees view.new).steps) k) }
+    ensures value { IfOk result (λ passes. passes ≡ meets principal test.now (row_at (rows_of (V.sees view.new).steps) k)) }
 {
     match test {
-        Test::Any => true,
-        Test::Kind(kind) => is_kind(*kind, view.kind(k)),
-        Test::AnyName => is_kind(principal, view.kind(k)),
+        Test::Any => Ok(true),
+        Test::Kind(kind) => Ok(is_kind(*kind, view.kind(k))),
+        Test::AnyName => Ok(is_kind(principal, view.kind(k))),
         Test::Name { uri, local } => {
             is_named(
                 view,
@@ -204,34 +212,41 @@ fn meets<V: NodeView>(
     }
 }
 
-// Whether the row is of this kind and has this name. Compares the number of its type first.
+// Whether the row is of this kind and has this name. Compares the bytes of a type once.
 fn is_named<V: NodeView>(
     view: &mut V,
     k: u32,
     kind: Kind,
     uri: &[u8],
     local: Option<&[u8]>,
-    met: &mut Option<u32>,
-) -> bool
+    met: &mut BTreeMap<u32, bool>,
+) -> Result<bool, AllocError>
     requires joined { IsJoined (V.sees view.old).steps k }
     requires seen { IsSeen (V.sees view.old) }
     requires met { IsMet (V.sees view.old) (λ row. is_named row uri.now (part_of local) && is_kind kind row.kind) met.old }
     ensures moves { Moves (V.sees view.old) (V.sees view.new) }
     ensures met { IsMet (V.sees view.new) (λ row. is_named row uri.now (part_of local.entry) && is_kind kind row.kind) met.new }
-    ensures value { result ≡ (is_named (row_at (rows_of (V.sees view.new).steps) k) uri.now (part_of local.entry) && is_kind kind (row_at (rows_of (V.sees view.new).steps) k).kind) }
+    ensures value { IfOk result (λ named. named ≡ (is_named (row_at (rows_of (V.sees view.new).steps) k) uri.now (part_of local.entry) && is_kind kind (row_at (rows_of (V.sees view.new).steps) k).kind)) }
 {
     let id = view.type_id(k);
-    if is_some(*met, id) {
-        return true;
+    if let Some(passes) = known(met, id) {
+        return Ok(passes);
     }
-    if !view.name_is(k, uri, local) {
-        return false;
-    }
+    let passes = has_name(view, k, kind, uri, local);
+    keep(met, id, passes)?;
+    Ok(passes)
+}
+
+// Whether the row is of this kind and has this name, by its bytes.
+fn has_name<V: NodeView>(view: &mut V, k: u32, kind: Kind, uri: &[u8], local: Option<&[u8]>) -> bool
+    requires joined { IsJoined (V.sees view.old).steps k }
+    ensures moves { Moves (V.sees view.old) (V.sees view.new) }
+    ensures value { result ≡ (is_named (row_at (rows_of (V.sees view.new).steps) k) uri.now (part_of local.entry) && is_kind kind (row_at (rows_of (V.sees view.new).steps) k).kind) }
+{
     if !is_kind(kind, view.kind(k)) {
         return false;
     }
-    *met = Some(id);
-    true
+    view.name_is(k, uri, local)
 }
 
 pub(crate) fn is_some(met: Option<u32>, id: u32) -> bool
@@ -252,5 +267,6 @@ fn is_kind(wanted: Kind, kind: Kind) -> bool
         Kind::Attribute => matches!(kind, Kind::Attribute),
         Kind::Text => matches!(kind, Kind::Text),
         Kind::Instruction => matches!(kind, Kind::Instruction),
+        Kind::Comment => matches!(kind, Kind::Comment),
     }
 }

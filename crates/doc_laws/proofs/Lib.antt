@@ -22,3 +22,8 @@ pub mod Rooted
 pub mod Ancestors
 pub mod Known
 pub mod Calls
+pub mod Standing
+pub mod Selected
+pub mod Legibility
+pub mod Whole
+pub mod Attributes

@@ -3,6 +3,7 @@ use Rattle.std.proofs.Common.{◌≡◌, ℕ, zero, suc, ◌+◌, ◌-◌, ◌<�
 use Rattle.std.proofs.lemmas.Bool.{cases_Bool, cases_lt, cases_eq, lt-ltb, le-ltb, eq-eqb, ne_eqb, and_from, and_right}
 use Rattle.std.proofs.lemmas.List.{take_at, get_or_past}
 use Rattle.std.proofs.lemmas.List.Elements.{filter-append}
+use Rattle.doc_laws.proofs.Standing.{standing_plain}
 use Rattle.doc_model.specs.declared.row.Row.{Row}
 use Rattle.doc_model.specs.Document.{is_attribute, is_parent}
 use Rattle.doc_model.specs.Lawful.{CanJoin, IsAttributeAt}
@@ -96,7 +97,7 @@ module _ (rows : List Row) (o : ℕ) (os : List ℕ) (row : Row) (attributes : L
   -- the new row is a child of the innermost open row, and of no other
   pub is_child_new : (n : ℕ) → is_child (rows ++ row ∷ attributes) n (length rows) ≡ eqb o n
   is_child_new n =
-      let plain : is_attribute row.kind ≡ false = elim joins.kind [ inl e ↦ ap is_attribute e | inr t ↦ elim t [ inl e ↦ ap is_attribute e | inr e ↦ ap is_attribute e ] ] in
+      let plain : is_attribute row.kind ≡ false = standing_plain row.kind joins.kind in
       ap (λ (r : Row). not (is_attribute r.kind) && is_some_of (parent_of (rows ++ row ∷ attributes) (length rows)) n) (row_at_seam rows row attributes)
       ∙ ap (λ b. not b && is_some_of (parent_of (rows ++ row ∷ attributes) (length rows)) n) plain
       ∙ ap (λ p. is_some_of p n) new_parent

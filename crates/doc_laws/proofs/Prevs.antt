@@ -1,7 +1,8 @@
 -- What one more Node step does to the earlier siblings and the counts of attributes.
-use Rattle.std.proofs.Common.{◌≡◌, ℕ, suc, ◌+◌, ◌<◌, false, cond, List, [], ◌∷◌, ◌++◌, length, Option, Some, None, drop, refl, ap, ◌∙◌, arith, inl, inr}
+use Rattle.std.proofs.Common.{◌≡◌, ℕ, suc, ◌+◌, ◌<◌, false, cond, List, [], ◌∷◌, ◌++◌, length, Option, Some, None, drop, refl, ap, ◌∙◌, arith}
 use Rattle.std.proofs.lemmas.Bool.{eq-eqb}
 use Rattle.std.proofs.lemmas.List.{drop-append-le}
+use Rattle.doc_laws.proofs.Standing.{standing_plain}
 use Rattle.doc_model.specs.declared.row.Row.{Row}
 use Rattle.doc_model.specs.Document.{is_attribute}
 use Rattle.doc_model.specs.Lawful.{CanJoin, AllAttributes}
@@ -27,7 +28,7 @@ drop_seam (x ∷ rows) row more = drop_seam rows row more
 
 module _ (rows : List Row) (o : ℕ) (os : List ℕ) (row : Row) (attributes : List Row) (stack : StackOf rows (o ∷ os)) (joins : CanJoin (o ∷ os) row attributes) where
   plain : is_attribute row.kind ≡ false
-  plain = elim joins.kind [ inl e ↦ ap is_attribute e | inr t ↦ elim t [ inl e ↦ ap is_attribute e | inr e ↦ ap is_attribute e ] ]
+  plain = standing_plain row.kind joins.kind
 
   pub count_old : (k : ℕ) → k < length rows → attr_count_of (rows ++ row ∷ attributes) k ≡ attr_count_of rows k
   count_old k l =

@@ -2,14 +2,14 @@
 use Rattle.std.proofs.Common.{◌≡◌, ℕ, zero, suc, ◌+◌, ◌-◌, ◌<◌, ◌≤◌, Bool, true, false, cond, not, ◌||◌, eqb, List, [], ◌∷◌, ◌++◌, length, refl, ap, sym, ◌∙◌, subst, arith, length-append, inl, inr, ◌⊎◌}
 use Rattle.std.proofs.lemmas.Bool.{cases_Bool, cases_lt, cases_eq, eq-eqb, ne_eqb, false≢true}
 use Rattle.doc_model.specs.declared.row.Kind.{Kind}
-use Rattle.doc_model.specs.declared.row.Kind.TheVariants.{Root, Element, Attribute, Text, Instruction}
+use Rattle.doc_model.specs.declared.row.Kind.TheVariants.{Root, Element, Attribute, Text, Instruction, Comment, Comment}
 use Rattle.doc_model.specs.declared.row.Row.{Row}
 use Rattle.doc_model.specs.declared.step.Step.{Step}
 use Rattle.doc_model.specs.declared.step.Step.TheVariants.{Node, Shut, End}
 use Rattle.doc_model.specs.declared.step.Verdict.{Verdict}
 use Rattle.doc_model.specs.declared.step.Verdict.TheVariants.{Good, Bad, Failed, Starved, Upstream}
 use Rattle.doc_model.specs.Document.{Document, start, after, document_from, document_of, is_attribute, is_parent, is_member, is_open, tail_of, open_after}
-use Rattle.doc_model.specs.Lawful.{CanJoin, CanEnd, LawfulFrom, IsJoined}
+use Rattle.doc_model.specs.Lawful.{may_stand, CanJoin, CanEnd, LawfulFrom, IsJoined}
 use Rattle.doc_model.specs.Relations.{extent_of}
 use Rattle.doc_model.specs.Rows.{row_at, rows_of, rows_given}
 use Rattle.doc_model.specs.Shut.{shut_count, element_count, HasShutMore, HasNode, HasGoodEnd, IsShut, IsShutAs}
@@ -275,8 +275,8 @@ given_no_root s (Node row attributes ∷ p) k l h e =
           no_root k lt (sym (ap (λ (r : Row). r.kind) at) ∙ e) l.1
     ]
   where
-    apart : (k : Kind) → (k ≡ Element) ⊎ ((k ≡ Text) ⊎ (k ≡ Instruction)) → k ≡ Root → ⊥
-    apart k h e = elim h [ inl a ↦ cc | inr t ↦ elim t [ inl a ↦ cc | inr a ↦ cc ] ]
+    apart : (k : Kind) → may_stand k ≡ true → k ≡ Root → ⊥
+    apart k h e = false≢true (sym (ap may_stand e) ∙ h)
 
     no_root : (k : ℕ) → k < suc (length attributes) → (row_at (row ∷ attributes) k).kind ≡ Root → CanJoin s.opened row attributes → ⊥
     no_root zero m e j = apart row.kind j.kind e
@@ -311,6 +311,7 @@ shut_closed p n l j h = go (row_at (rows_of p) n).kind refl h
     go Attribute e h = leaf_closed p n l (ap is_parent e)
     go Text e h = leaf_closed p n l (ap is_parent e)
     go Instruction e h = leaf_closed p n l (ap is_parent e)
+    go Comment e h = leaf_closed p n l (ap is_parent e)
 
 pub closed_shut : (p : List Step) (n : ℕ) → LawfulFrom start p → IsJoined p n → is_open p n ≡ false → IsShut p n
 closed_shut p n l j h = go (row_at (rows_of p) n).kind refl
@@ -340,3 +341,4 @@ closed_shut p n l j h = go (row_at (rows_of p) n).kind refl
     go Attribute e = tt
     go Text e = tt
     go Instruction e = tt
+    go Comment e = tt

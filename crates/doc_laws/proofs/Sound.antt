@@ -2,6 +2,7 @@
 use Rattle.std.proofs.Common.{◌≡◌, ℕ, zero, suc, ◌+◌, ◌-◌, ◌<◌, ◌≤◌, true, false, cond, List, [], ◌∷◌, ◌++◌, length, Some, None, drop, refl, ap, sym, ◌∙◌, subst, arith, length-append, length-drop, get_or-drop, inl, inr}
 use Rattle.std.proofs.lemmas.Bool.{cases_Bool, cases_lt, cases_eq, le-ltb, false≢true}
 use Rattle.std.proofs.lemmas.List.{drop_all}
+use Rattle.doc_laws.proofs.Standing.{standing_plain}
 use Rattle.doc_model.specs.declared.row.Row.{Row}
 use Rattle.doc_model.specs.declared.step.Step.{Step}
 use Rattle.doc_model.specs.declared.step.Step.TheVariants.{Node, Shut, End}
@@ -41,7 +42,7 @@ module _ (rows : List Row) (o : ℕ) (os : List ℕ) (row : Row) (attributes : L
   some_same a b h = cc
 
   plain : is_attribute row.kind ≡ false
-  plain = elim joins.kind [ inl e ↦ ap is_attribute e | inr t ↦ elim t [ inl e ↦ ap is_attribute e | inr e ↦ ap is_attribute e ] ]
+  plain = standing_plain row.kind joins.kind
 
   later_depth : (j : ℕ) → length rows < j → j < length (rows ++ row ∷ attributes) → (is_attribute (row_at (rows ++ row ∷ attributes) j).kind ≡ true) × ((row_at (rows ++ row ∷ attributes) j).depth ≡ suc row.depth)
   later_depth j l m =

@@ -3,6 +3,7 @@ use Rattle.std.proofs.Common.{◌≡◌, ℕ, suc, ◌+◌, ◌-◌, ◌<◌, Bo
 use Rattle.std.proofs.lemmas.Bool.{and_right, cases_Bool, cases_eq, ne_eqb, not-true, false≢true}
 use Rattle.std.proofs.lemmas.List.{drop-append-le}
 use Rattle.std.proofs.lemmas.List.Elements.{filter-append}
+use Rattle.doc_laws.proofs.Standing.{standing_plain}
 use Rattle.doc_model.specs.declared.row.Row.{Row}
 use Rattle.doc_model.specs.declared.step.Step.{Step}
 use Rattle.doc_model.specs.declared.step.Step.TheVariants.{Node, Shut, End}
@@ -33,7 +34,7 @@ prev_among rules rows more k l None = refl
 prev_among rules rows more k l (Some n) = ap last_of (shown_below_grows rules rows more n k (omega arith))
 
 plain_node : (opened : List ℕ) (row : Row) (attributes : List Row) → CanJoin opened row attributes → is_attribute row.kind ≡ false
-plain_node opened row attributes j = elim j.kind [ inl e ↦ ap is_attribute e | inr t ↦ elim t [ inl e ↦ ap is_attribute e | inr e ↦ ap is_attribute e ] ]
+plain_node opened row attributes j = standing_plain row.kind j.kind
 
 -- the rows that further steps give begin with one that is no attribute
 pub record Begins (rows : List Row) : Type 0 where

@@ -2,7 +2,7 @@
 use Rattle.std.proofs.Common.{◌≡◌, ℕ, zero, suc, ◌+◌, ◌-◌, ◌<◌, ◌≤◌, true, false, cond, not, ◌&&◌, eqb, List, [], ◌∷◌, length, Some, drop, refl, ap, sym, ◌∙◌, arith, length-drop, get_or-drop, inl, inr}
 use Rattle.std.proofs.lemmas.Bool.{cases_Bool, cases_lt, cases_eq, and_parts, and_from, and_right, lt-ltb, le-ltb, eqb-true, eq-eqb, ne_eqb, not-true, false≢true}
 use Rattle.doc_model.specs.declared.row.Kind.{Kind}
-use Rattle.doc_model.specs.declared.row.Kind.TheVariants.{Root, Element, Attribute, Text, Instruction}
+use Rattle.doc_model.specs.declared.row.Kind.TheVariants.{Root, Element, Attribute, Text, Instruction, Comment, Comment}
 use Rattle.doc_model.specs.declared.row.Row.{Row}
 use Rattle.doc_model.specs.Document.{is_attribute, is_parent}
 use Rattle.doc_model.specs.Relations.{parent_of, is_child, is_some_of, deeper, extent_of}
@@ -13,12 +13,13 @@ use Rattle.doc_laws.proofs.Links.{parent_before}
 use Rattle.doc_laws.proofs.Parents.{parent_is, parent_from}
 use Rattle.doc_laws.proofs.Sound.{TreeHolds, IsAfter}
 
-parent_plain : (k : Kind) → is_parent k ≡ true → is_attribute k ≡ false
+pub parent_plain : (k : Kind) → is_parent k ≡ true → is_attribute k ≡ false
 parent_plain Root h = refl
 parent_plain Element h = refl
 parent_plain Attribute h = absurd (false≢true h)
 parent_plain Text h = refl
 parent_plain Instruction h = refl
+parent_plain Comment h = refl
 
 deeper_more : (d : ℕ) (r : Row) (rows : List Row) → d < r.depth → deeper d (r ∷ rows) ≡ suc (deeper d rows)
 deeper_more d r rows lt = ap (λ b. cond b (suc (deeper d rows)) 0) (lt-ltb d r.depth lt)

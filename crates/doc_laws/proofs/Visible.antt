@@ -3,7 +3,7 @@ use Rattle.std.proofs.Common.{◌≡◌, ℕ, zero, suc, ◌+◌, ◌-◌, ◌<�
 use Rattle.std.proofs.lemmas.Bool.{cases_Bool, false≢true}
 use Rattle.std.proofs.lemmas.List.{drop-append-le}
 use Rattle.doc_model.specs.declared.row.Kind.{Kind}
-use Rattle.doc_model.specs.declared.row.Kind.TheVariants.{Root, Element, Attribute, Text, Instruction}
+use Rattle.doc_model.specs.declared.row.Kind.TheVariants.{Root, Element, Attribute, Text, Instruction, Comment, Comment}
 use Rattle.doc_model.specs.declared.row.Row.{Row}
 use Rattle.doc_model.specs.declared.strip_rule.StripRule.{StripRule}
 use Rattle.doc_model.specs.Document.{is_attribute}
@@ -47,6 +47,7 @@ blank_plain row h = go row.kind (all_white row.value) h
     go Attribute b h = absurd (false≢true h)
     go Text b h = refl
     go Instruction b h = refl
+    go Comment b h = refl
 
 row_or_root_grows : (rows more : List Row) (o : Option ℕ) → ((p : ℕ) → o ≡ Some p → p < length rows) → row_or_root (rows ++ more) o ≡ row_or_root rows o
 row_or_root_grows rows more None h = refl

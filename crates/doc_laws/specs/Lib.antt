@@ -1,3 +1,4 @@
 pub mod Words
+pub mod Ordered
 pub mod Stays
 pub mod Still

@@ -5,7 +5,7 @@ use Rattle.std.proofs.lemmas.List.{get_or_read}
 use Rattle.std.proofs.lemmas.List.Elements.{filter-append}
 use Rattle.std.proofs.lemmas.List.Concat.{flat_map-append}
 use Rattle.doc_model.specs.declared.row.Kind.{Kind}
-use Rattle.doc_model.specs.declared.row.Kind.TheVariants.{Root, Element, Attribute, Text, Instruction}
+use Rattle.doc_model.specs.declared.row.Kind.TheVariants.{Root, Element, Attribute, Text, Instruction, Comment}
 use Rattle.doc_model.specs.declared.row.Row.{Row}
 use Rattle.doc_model.specs.declared.strip_rule.StripRule.{StripRule}
 use Rattle.doc_model.specs.Relations.{numbers, deeper, extent_of}
@@ -176,6 +176,7 @@ module _ (rules : List StripRule) (rows : List Row) (n k : ℕ) (value : List �
       other Attribute n = refl
       other Text n = absurd (n refl)
       other Instruction n = refl
+      other Comment n = refl
 
       none : is_shown_text rules rows k ≡ false
       none = and_right (is_visible rules rows k) (is_text (row_at rows k).kind) (sym (ap (λ (r : Row). is_text r.kind) at) ∙ other row.kind t)

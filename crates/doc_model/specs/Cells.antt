@@ -1,16 +1,16 @@
 -- What a growing table holds, what it spells, and what a call makes of it.
-use Rattle.std.specs.Prelude.{ℕ, suc, ◌+◌, ◌-◌, List, [], ◌∷◌, ◌++◌, length, None, slice_index_or, take, drop, map}
+use Rattle.std.specs.Prelude.{ℕ, suc, ◌+◌, ◌-◌, ◌*◌, ◌/◌, List, [], ◌∷◌, ◌++◌, length, None, slice_index_or, take, drop, map, replicate}
 use Rattle.doc_model.specs.declared.limits.Limits.{Limits}
 use Rattle.doc_model.specs.declared.places.NamePlace.{NamePlace}
 use Rattle.doc_model.specs.declared.places.PrefixPlace.{PrefixPlace}
 use Rattle.doc_model.specs.declared.places.Room.{Room}
 use Rattle.doc_model.specs.declared.places.RowPlace.{RowPlace}
-use Rattle.doc_model.specs.declared.row.Kind.TheVariants.{Root, Text}
+use Rattle.doc_model.specs.declared.row.Kind.TheVariants.{Root, Text, Comment}
 use Rattle.doc_model.specs.declared.row.Row.{Row}
 use Rattle.doc_model.specs.declared.step.Step.{Step}
 use Rattle.doc_model.specs.declared.step.Step.TheVariants.{Node}
 
--- the lists that were filled: bytes of texts, names by type number, prefixes, and rows by their places
+-- the lists that were filled: bytes of texts, with gaps of zeros, names by type number, prefixes, and rows by their places
 pub record Columns : Type 0 where
   pub texts : List ℕ
   pub names : List NamePlace
@@ -22,13 +22,17 @@ pub record Cells : Type 0 where
   pub columns : Columns
   pub steps : List Step
 
--- the names of type numbers 0, the root's, and 2, which is kept for comments
+-- the name of type number 0, the root's
 abbrev pub no_name : NamePlace
 no_name = record { kind = Root; uri_at = 0; uri_len = 0; local_at = 0; local_len = 0 }
 
 -- the name of type number 1, that of texts
 abbrev pub text_name : NamePlace
 text_name = record { kind = Text; uri_at = 0; uri_len = 0; local_at = 0; local_len = 0 }
+
+-- the name of type number 2, that of comments
+abbrev pub comment_name : NamePlace
+comment_name = record { kind = Comment; uri_at = 0; uri_len = 0; local_at = 0; local_len = 0 }
 
 -- prefix number 0, which is empty
 abbrev pub no_prefix : PrefixPlace
@@ -40,7 +44,7 @@ root_place = record { kind = Root; type_id = 0; prefix_id = 0; parent = 0; prev 
 -- a new table: the root, type numbers 0 to 2 and prefix 0 stand from the start
 abbrev pub empty_cells : Cells
 empty_cells = record {
-  columns = record { texts = []; names = no_name ∷ text_name ∷ no_name ∷ []; prefixes = no_prefix ∷ []; places = root_place ∷ [] };
+  columns = record { texts = []; names = no_name ∷ text_name ∷ comment_name ∷ []; prefixes = no_prefix ∷ []; places = root_place ∷ [] };
   steps = [];
 }
 
@@ -79,17 +83,29 @@ attributes_at c n = take (place_at c n).attr_count (drop (suc n) c.places)
 abbrev pub node_at : Columns → ℕ → Step
 node_at c n = Node (row_of c (place_at c n)) (map (row_of c) (attributes_at c n))
 
--- what is free: the root counts as a row, and the type numbers and the prefix of the start not as names
+-- where a text begins that is filled behind so many bytes: at the least multiple of 7 that is not below
+abbrev pub text_place : ℕ → ℕ
+text_place n = 7 * ((n + 6) / 7)
+
+-- the bytes, and zeros behind them up to the place of the next text
+abbrev pub padded : List ℕ → List ℕ
+padded texts = texts ++ replicate (text_place (length texts) - length texts) 0
+
+-- the words of seven bytes that a table reserves, enough for whatever its limits allow: a row has one text, a type two and a prefix one, and each begins at a word
+abbrev pub text_words : Limits → ℕ
+text_words limits = limits.text / 7 + limits.rows + 2 * limits.names + 1
+
+-- what is free: of texts the bytes of the words that are not used; the root counts as a row, and the type numbers and the prefix of the start not as names
 abbrev pub free_of : Limits → Columns → Room
 free_of limits c = record {
   rows = limits.rows - length c.places;
-  text = limits.text - length c.texts;
+  text = 7 * text_words limits - text_place (length c.texts);
   names = limits.names - (length c.names - 3 + (length c.prefixes - 1));
 }
 
 -- the table after a call
 abbrev pub with_text : Cells → List ℕ → Cells
-with_text cells bytes = record cells { columns = record cells.columns { texts = cells.columns.texts ++ bytes } }
+with_text cells bytes = record cells { columns = record cells.columns { texts = padded cells.columns.texts ++ bytes } }
 
 abbrev pub with_name : Cells → NamePlace → Cells
 with_name cells name = record cells { columns = record cells.columns { names = cells.columns.names ++ name ∷ [] } }

@@ -1,7 +1,7 @@
 -- What a list of steps has made: the rows, which of them are open, and the verdict.
 use Rattle.std.specs.Prelude.{ℕ, List, [], ◌∷◌, ◌++◌, Bool, true, false, ◌||◌, ◌==◌, if◌then◌else◌, length, Option, Some, None}
 use Rattle.doc_model.specs.declared.row.Kind.{Kind}
-use Rattle.doc_model.specs.declared.row.Kind.TheVariants.{Root, Element, Attribute, Text, Instruction}
+use Rattle.doc_model.specs.declared.row.Kind.TheVariants.{Root, Element, Attribute, Text, Instruction, Comment}
 use Rattle.doc_model.specs.declared.row.Row.{Row}
 use Rattle.doc_model.specs.declared.step.Step.{Step}
 use Rattle.doc_model.specs.declared.step.Step.TheVariants.{Node, Shut, End}
@@ -16,6 +16,7 @@ is_parent Element = true
 is_parent Attribute = false
 is_parent Text = false
 is_parent Instruction = false
+is_parent Comment = false
 
 abbrev pub is_attribute : Kind → Bool
 is_attribute Root = false
@@ -23,6 +24,7 @@ is_attribute Element = false
 is_attribute Attribute = true
 is_attribute Text = false
 is_attribute Instruction = false
+is_attribute Comment = false
 
 -- the rows in order; the numbers of the root and of the elements that are not shut, the innermost first; the verdict
 pub record Document : Type 0 where

@@ -1,7 +1,7 @@
 -- The names of the flaws, as console lines print them.
 use Rattle.std.specs.Prelude.{ℕ, List, codes}
 use Rattle.doc_model.specs.declared.flaw.FlawKind.{FlawKind}
-use Rattle.doc_model.specs.declared.flaw.FlawKind.TheVariants.{TooManyLines, LongLine, NotUtf8, UnknownLine, NoSpace, BadName, UnboundPrefix, DuplicateAttr, TooManyNames, TooMuchText, SecondRoot, TooDeep, TooManyNodes, AttrPlace, TooManyAttrs, TextOutside, WrongEnd, NoRoot, Unclosed, NotBuilt}
+use Rattle.doc_model.specs.declared.flaw.FlawKind.TheVariants.{TooManyLines, LongLine, NotUtf8, UnknownLine, NoSpace, BadName, UnboundPrefix, DuplicateAttr, TooManyNames, TooMuchText, SecondRoot, TooDeep, TooManyNodes, AttrPlace, TooManyAttrs, TextOutside, WrongEnd, NoRoot, Unclosed}
 
 -- the name of the variant
 abbrev pub flaw_name : FlawKind → List ℕ
@@ -24,4 +24,3 @@ flaw_name TextOutside = codes "TextOutside"
 flaw_name WrongEnd = codes "WrongEnd"
 flaw_name NoRoot = codes "NoRoot"
 flaw_name Unclosed = codes "Unclosed"
-flaw_name NotBuilt = codes "NotBuilt"

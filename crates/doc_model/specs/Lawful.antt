@@ -1,6 +1,7 @@
 -- Which lists of steps a table may hold, and how they grow.
-use Rattle.std.specs.Prelude.{◌≡◌, ℕ, suc, ◌^◌, ◌<◌, List, [], ◌∷◌, ◌++◌, true, false, length, None, ◌⊎◌, ⊤}
-use Rattle.doc_model.specs.declared.row.Kind.TheVariants.{Element, Attribute, Text, Instruction}
+use Rattle.std.specs.Prelude.{◌≡◌, ℕ, suc, ◌^◌, ◌<◌, List, [], ◌∷◌, ◌++◌, Bool, true, false, length, None, ⊤}
+use Rattle.doc_model.specs.declared.row.Kind.TheVariants.{Root, Element, Attribute, Text, Instruction, Comment}
+use Rattle.doc_model.specs.declared.row.Kind.{Kind}
 use Rattle.doc_model.specs.declared.row.Row.{Row}
 use Rattle.doc_model.specs.declared.step.Step.{Step}
 use Rattle.doc_model.specs.declared.step.Step.TheVariants.{Node, Shut, End}
@@ -18,9 +19,18 @@ abbrev pub AllAttributes : ℕ → List Row → Type 0
 AllAttributes depth [] = ⊤
 AllAttributes depth (row ∷ rows) = IsAttributeAt depth row × AllAttributes depth rows
 
+-- a row of this kind may stand in a Node: it is neither the root nor an attribute
+abbrev pub may_stand : Kind → Bool
+may_stand Root = false
+may_stand Element = true
+may_stand Attribute = false
+may_stand Text = true
+may_stand Instruction = true
+may_stand Comment = true
+
 -- a Node may come where these rows are open: it is neither the root nor an attribute, stands one below the innermost open row, only an element has attributes, and all names and texts are those of lines
 pub record CanJoin (opened : List ℕ) (row : Row) (attributes : List Row) : Type 0 where
-  pub kind : (row.kind ≡ Element) ⊎ ((row.kind ≡ Text) ⊎ (row.kind ≡ Instruction))
+  pub kind : may_stand row.kind ≡ true
   pub depth : row.depth ≡ length opened
   pub bare : is_parent row.kind ≡ false → attributes ≡ []
   pub carried : AllAttributes row.depth attributes

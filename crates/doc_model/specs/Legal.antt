@@ -9,7 +9,7 @@ use Rattle.doc_model.specs.declared.row.Kind.TheVariants.{Element, Attribute}
 use Rattle.doc_model.specs.declared.step.Step.{Step}
 use Rattle.doc_model.specs.declared.step.Step.TheVariants.{Shut, End}
 use Rattle.doc_model.specs.declared.step.Verdict.{Verdict}
-use Rattle.doc_model.specs.Cells.{Columns, Cells, empty_cells, name_at, place_at, slice_of, attributes_at, node_at, with_text, with_name, with_prefix, with_row, with_step}
+use Rattle.doc_model.specs.Cells.{Columns, Cells, empty_cells, name_at, place_at, slice_of, attributes_at, node_at, text_place, with_text, with_name, with_prefix, with_row, with_step}
 use Rattle.doc_model.specs.Document.{document_of}
 use Rattle.doc_model.specs.Lawful.{CanStep}
 use Rattle.doc_model.specs.Relations.{children_of, last_of, extent_of}
@@ -21,9 +21,9 @@ pub record IsSameName (c : Columns) (a b : NamePlace) : Type 0 where
   pub uri : slice_of c.texts a.uri_at a.uri_len ≡ slice_of c.texts b.uri_at b.uri_len
   pub local : slice_of c.texts a.local_at a.local_len ≡ slice_of c.texts b.local_at b.local_len
 
--- no type number has this name yet; number 2, which is kept, has none
+-- no type number has this name yet
 abbrev pub IsFresh : Columns → NamePlace → Type 0
-IsFresh c name = (id : ℕ) → id < length c.names → id ≢ 2 → IsSameName c (name_at c id) name → ⊥
+IsFresh c name = (id : ℕ) → id < length c.names → IsSameName c (name_at c id) name → ⊥
 
 -- the texts of a name are filled
 pub record NameFits (c : Columns) (name : NamePlace) : Type 0 where
@@ -34,10 +34,9 @@ pub record NameFits (c : Columns) (name : NamePlace) : Type 0 where
 abbrev pub PrefixFits : Columns → PrefixPlace → Type 0
 PrefixFits c prefix = prefix.at + prefix.len ≤ length c.texts
 
--- what a row names is filled, its type is one of its kind, and its type number is not the kept one
+-- what a row names is filled, and its type is one of its kind
 pub record RowFits (c : Columns) (place : RowPlace) : Type 0 where
   pub type : place.type_id < length c.names
-  pub kept : place.type_id ≢ 2
   pub kind : (name_at c place.type_id).kind ≡ place.kind
   pub prefix : place.prefix_id < length c.prefixes
   pub text : place.text_at + place.text_len ≤ length c.texts
@@ -93,6 +92,10 @@ pub record EndFits (cells : Cells) (verdict : Verdict) : Type 0 where
   pub going : (document_of cells.steps).ended ≡ None
   pub may : CanStep (document_of cells.steps) (End verdict)
 
+-- nothing has ended yet
+abbrev pub IsGoing : Cells → Type 0
+IsGoing cells = (document_of cells.steps).ended ≡ None
+
 -- one call of a builder
 pub data Call : Type 0 where
   fill_text : (at : ℕ) (bytes : List ℕ) → Call
@@ -103,12 +106,12 @@ pub data Call : Type 0 where
   shut : (n extent : ℕ) → Call
   finish : (verdict : Verdict) → Call
 
--- the call may come at this table: it has the next place, and all that it names is filled
+-- the call may come at this table: nothing has ended, it has the next place, and all that it names is filled
 abbrev pub CallFits : Cells → Call → Type 0
-CallFits cells (fill_text at bytes) = at ≡ length cells.columns.texts
-CallFits cells (fill_name id name) = (id ≡ length cells.columns.names) × NameFits cells.columns name × IsFresh cells.columns name
-CallFits cells (fill_prefix id prefix) = (id ≡ length cells.columns.prefixes) × PrefixFits cells.columns prefix
-CallFits cells (fill_row n row) = (n ≡ length cells.columns.places) × RowFits cells.columns row × RowStands cells.columns row
+CallFits cells (fill_text at bytes) = IsGoing cells × (at ≡ text_place (length cells.columns.texts))
+CallFits cells (fill_name id name) = IsGoing cells × (id ≡ length cells.columns.names) × NameFits cells.columns name × IsFresh cells.columns name
+CallFits cells (fill_prefix id prefix) = IsGoing cells × (id ≡ length cells.columns.prefixes) × PrefixFits cells.columns prefix
+CallFits cells (fill_row n row) = IsGoing cells × (n ≡ length cells.columns.places) × RowFits cells.columns row × RowStands cells.columns row
 CallFits cells (join n how) = JoinFits cells n how
 CallFits cells (shut n extent) = ShutFits cells n extent
 CallFits cells (finish verdict) = EndFits cells verdict

@@ -3,7 +3,7 @@ use Rattle.std.specs.Prelude.{ℕ, List, [], ◌∷◌, Bool, true, false, not, 
 use Rattle.std.specs.Str.{is_utf8}
 use Rattle.name_grammar.specs.Names.{is_ncname}
 use Rattle.doc_model.specs.declared.row.Kind.{Kind}
-use Rattle.doc_model.specs.declared.row.Kind.TheVariants.{Root, Element, Attribute, Text, Instruction}
+use Rattle.doc_model.specs.declared.row.Kind.TheVariants.{Root, Element, Attribute, Text, Instruction, Comment}
 use Rattle.doc_model.specs.declared.row.Row.{Row}
 
 abbrev pub is_empty : List ℕ → Bool
@@ -28,6 +28,7 @@ is_named_as Root row = true
 is_named_as Element row = is_qualified row
 is_named_as Attribute row = is_qualified row && not (is_declaration row)
 is_named_as Text row = is_empty row.prefix && (is_empty row.uri && is_empty row.local)
+is_named_as Comment row = is_empty row.prefix && (is_empty row.uri && is_empty row.local)
 is_named_as Instruction row = is_empty row.prefix && (is_empty row.uri && is_part row.local)
 
 -- a row with a name of the line format, whose URI and value are UTF-8

@@ -1,4 +1,5 @@
 pub mod FlawName
+pub mod Numbers
 pub mod Rows
 pub mod Document
 pub mod Legible
@@ -11,6 +12,7 @@ pub mod Shown
 pub mod Values
 pub mod View
 pub mod Answers
+pub mod Asks
 pub mod NodeTests
 pub mod Axes
 pub mod Cells

@@ -1,7 +1,7 @@
 -- When a row is shut.
 use Rattle.std.specs.Prelude.{◌≡◌, ℕ, suc, List, [], ◌∷◌, ◌++◌, if◌then◌else◌, length, ⊤}
 use Rattle.doc_model.specs.declared.row.Kind.{Kind}
-use Rattle.doc_model.specs.declared.row.Kind.TheVariants.{Root, Element, Attribute, Text, Instruction}
+use Rattle.doc_model.specs.declared.row.Kind.TheVariants.{Root, Element, Attribute, Text, Instruction, Comment}
 use Rattle.doc_model.specs.declared.row.Row.{Row}
 use Rattle.doc_model.specs.declared.step.Step.{Step}
 use Rattle.doc_model.specs.declared.step.Step.TheVariants.{Node, Shut, End}
@@ -51,6 +51,7 @@ IsShutAs Element steps n = (later : List Step) × HasNode steps n later × HasSh
 IsShutAs Attribute steps n = ⊤
 IsShutAs Text steps n = ⊤
 IsShutAs Instruction steps n = ⊤
+IsShutAs Comment steps n = ⊤
 
 -- row n is shut
 abbrev pub IsShut : List Step → ℕ → Type 0

@@ -1,7 +1,7 @@
 -- Which texts a list of strip rules hides (XSLT 1.0, section 3.4).
-use Rattle.std.specs.Prelude.{ℕ, zero, suc, ◌+◌, Bool, true, false, not, ◌&&◌, ◌||◌, ◌==◌, nat_le, if◌then◌else◌, List, [], ◌∷◌, Option, Some, None, drop, codes, bytes_eq}
+use Rattle.std.specs.Prelude.{ℕ, zero, suc, ◌+◌, Bool, true, false, not, ◌&&◌, ◌||◌, ◌==◌, nat_le, nat_lt, if◌then◌else◌, List, [], ◌∷◌, Option, Some, None, drop, codes, bytes_eq}
 use Rattle.doc_model.specs.declared.row.Kind.{Kind}
-use Rattle.doc_model.specs.declared.row.Kind.TheVariants.{Root, Element, Attribute, Text, Instruction}
+use Rattle.doc_model.specs.declared.row.Kind.TheVariants.{Root, Element, Attribute, Text, Instruction, Comment}
 use Rattle.doc_model.specs.declared.row.Row.{Row}
 use Rattle.doc_model.specs.declared.strip_rule.StripRule.{StripRule}
 use Rattle.doc_model.specs.Document.{is_attribute}
@@ -22,6 +22,7 @@ is_text Element = false
 is_text Attribute = false
 is_text Text = true
 is_text Instruction = false
+is_text Comment = false
 
 abbrev pub is_element : Kind → Bool
 is_element Root = false
@@ -29,6 +30,7 @@ is_element Element = true
 is_element Attribute = false
 is_element Text = false
 is_element Instruction = false
+is_element Comment = false
 
 -- a text of whitespace alone
 abbrev pub is_blank : Row → Bool
@@ -54,10 +56,13 @@ part_count (Some part) = 1
 abbrev pub rank : StripRule → ℕ
 rank rule = part_count rule.uri + part_count rule.local
 
--- a later rule of the same rank holds
+-- a rule holds over one that stands before it: of higher import precedence, or of the same and no lower rank
+abbrev pub outranks : StripRule → StripRule → Bool
+outranks rule best = nat_lt best.precedence rule.precedence || ((best.precedence == rule.precedence) && nat_le (rank best) (rank rule))
+
 abbrev pub holds_over : StripRule → Option StripRule → Bool
 holds_over rule None = true
-holds_over rule (Some best) = nat_le (rank best) (rank rule)
+holds_over rule (Some best) = outranks rule best
 
 abbrev pub best_from : Option StripRule → List StripRule → Row → Option StripRule
 best_from best [] row = best

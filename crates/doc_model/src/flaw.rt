@@ -1,5 +1,6 @@
-ghost use Rattle.std.specs.Prelude.{◌≡◌};
+ghost use Rattle.std.specs.Prelude.{◌≡◌, ◌↔◌, Some};
 ghost use Rattle.doc_model.specs.FlawName.{flaw_name};
+ghost use Rattle.doc_model.specs.Numbers.{flaw_number};
 
 /// What is wrong with a source. The kinds are numbered in this order.
 #[derive(Clone, Copy, Debug, PartialEq, Eq)]
@@ -42,8 +43,6 @@ pub enum FlawKind {
     NoRoot,
     /// The source ended with an element open.
     Unclosed,
-    /// A line that is not read yet by this version.
-    NotBuilt,
 }
 
 impl FlawKind {
@@ -71,7 +70,61 @@ impl FlawKind {
             FlawKind::WrongEnd => "WrongEnd",
             FlawKind::NoRoot => "NoRoot",
             FlawKind::Unclosed => "Unclosed",
-            FlawKind::NotBuilt => "NotBuilt",
+        }
+    }
+
+    /// The number of the kind, counted from 1 in the order of the variants.
+    pub fn number(self) -> u8
+        ensures { result ≡ flaw_number self }
+    {
+        match self {
+            FlawKind::TooManyLines => 1,
+            FlawKind::LongLine => 2,
+            FlawKind::NotUtf8 => 3,
+            FlawKind::UnknownLine => 4,
+            FlawKind::NoSpace => 5,
+            FlawKind::BadName => 6,
+            FlawKind::UnboundPrefix => 7,
+            FlawKind::DuplicateAttr => 8,
+            FlawKind::TooManyNames => 9,
+            FlawKind::TooMuchText => 10,
+            FlawKind::SecondRoot => 11,
+            FlawKind::TooDeep => 12,
+            FlawKind::TooManyNodes => 13,
+            FlawKind::AttrPlace => 14,
+            FlawKind::TooManyAttrs => 15,
+            FlawKind::TextOutside => 16,
+            FlawKind::WrongEnd => 17,
+            FlawKind::NoRoot => 18,
+            FlawKind::Unclosed => 19,
+        }
+    }
+
+    /// The kind that has a number; None exactly where none has it.
+    pub fn from_number(number: u8) -> Option<FlawKind>
+        ensures { (kind : FlawKind) → (result ≡ Some kind) ↔ (flaw_number kind ≡ number) }
+    {
+        match number {
+            1 => Some(FlawKind::TooManyLines),
+            2 => Some(FlawKind::LongLine),
+            3 => Some(FlawKind::NotUtf8),
+            4 => Some(FlawKind::UnknownLine),
+            5 => Some(FlawKind::NoSpace),
+            6 => Some(FlawKind::BadName),
+            7 => Some(FlawKind::UnboundPrefix),
+            8 => Some(FlawKind::DuplicateAttr),
+            9 => Some(FlawKind::TooManyNames),
+            10 => Some(FlawKind::TooMuchText),
+            11 => Some(FlawKind::SecondRoot),
+            12 => Some(FlawKind::TooDeep),
+            13 => Some(FlawKind::TooManyNodes),
+            14 => Some(FlawKind::AttrPlace),
+            15 => Some(FlawKind::TooManyAttrs),
+            16 => Some(FlawKind::TextOutside),
+            17 => Some(FlawKind::WrongEnd),
+            18 => Some(FlawKind::NoRoot),
+            19 => Some(FlawKind::Unclosed),
+            _ => None,
         }
     }
 }

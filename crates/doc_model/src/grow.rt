@@ -1,7 +1,8 @@
-ghost use Rattle.std.specs.Prelude.{◌≡◌, ◌<◌, ◌≤◌, length};
+ghost use Rattle.std.specs.Prelude.{◌≡◌, ◌<◌, ◌≤◌, length, None};
 ghost use Rattle.doc_model.specs.declared.limits.Limits.{Limits};
 ghost use Rattle.doc_model.specs.declared.step.Step.TheVariants.{Shut, End};
-ghost use Rattle.doc_model.specs.Cells.{Cells, free_of, node_at, with_text, with_name, with_prefix, with_row, with_step};
+ghost use Rattle.doc_model.specs.Cells.{Cells, free_of, node_at, text_place, with_text, with_name, with_prefix, with_row, with_step};
+ghost use Rattle.doc_model.specs.Document.{document_of};
 ghost use Rattle.doc_model.specs.Legal.{NameFits, IsFresh, PrefixFits, RowFits, RowStands, JoinFits, ShutFits, EndFits};
 
 use crate::places::{Join, NamePlace, Room, RowPlace};
@@ -9,8 +10,8 @@ use crate::step::Verdict;
 
 /// A table that one builder fills and joins. Rows, names, prefixes and texts are filled first; a row
 /// becomes readable when it is joined. Each call has the next place, names only what is filled before
-/// it, and has room; none takes memory or is refused. The root row, type numbers 0 (the root), 1 (text)
-/// and 2 (kept for comments) and prefix 0 (empty) stand from the start.
+/// it, and has room, and none comes after `finish`; none takes memory or is refused. The root row, type
+/// numbers 0 (the root), 1 (texts) and 2 (comments) and prefix 0 (empty) stand from the start.
 pub trait GrowCells {
     /// What tells the borrow that the table stands on.
     ghost Mark: { Type 0 };
@@ -28,9 +29,11 @@ pub trait GrowCells {
     fn room(&self) -> Room
         ensures { result ≡ free_of (limits self.now) (cells self.now).columns };
 
-    /// Adds bytes to the texts, at the length so far. Costs the bytes.
+    /// Adds bytes to the texts, at the least multiple of 7 that isn't below the end of the last text. Costs
+    /// the bytes.
     fn fill_text(&mut self, at: u64, bytes: &[u8])
-        requires place { at ≡ length (cells self.old).columns.texts }
+        requires going { (document_of (cells self.old).steps).ended ≡ None }
+        requires place { at ≡ text_place (length (cells self.old).columns.texts) }
         requires room { length bytes.now ≤ (free_of (limits self.old) (cells self.old).columns).text }
         ensures cells { cells self.new ≡ with_text (cells self.old) bytes.now }
         ensures limits { limits self.new ≡ limits self.old }
@@ -38,6 +41,7 @@ pub trait GrowCells {
 
     /// Gives the next type number a name that none has yet.
     fn fill_name(&mut self, id: u32, name: &NamePlace)
+        requires going { (document_of (cells self.old).steps).ended ≡ None }
         requires place { id ≡ length (cells self.old).columns.names }
         requires room { 0 < (free_of (limits self.old) (cells self.old).columns).names }
         requires fits { NameFits (cells self.old).columns name.now }
@@ -48,6 +52,7 @@ pub trait GrowCells {
 
     /// Gives the next prefix number a text.
     fn fill_prefix(&mut self, id: u32, at: u64, len: u32)
+        requires going { (document_of (cells self.old).steps).ended ≡ None }
         requires place { id ≡ length (cells self.old).columns.prefixes }
         requires room { 0 < (free_of (limits self.old) (cells self.old).columns).names }
         requires fits { PrefixFits (cells self.old).columns (record { at = at; len = len }) }
@@ -57,6 +62,7 @@ pub trait GrowCells {
 
     /// Fills the next row, which can't be read before it is joined.
     fn fill_row(&mut self, n: u32, row: &RowPlace)
+        requires going { (document_of (cells self.old).steps).ended ≡ None }
         requires place { n ≡ length (cells self.old).columns.places }
         requires room { 0 < (free_of (limits self.old) (cells self.old).columns).rows }
         requires fits { RowFits (cells self.old).columns row.now }

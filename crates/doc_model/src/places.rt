@@ -1,10 +1,13 @@
+ghost use Rattle.std.specs.Prelude.{◌≡◌, ◌<◌, ◌^◌};
+ghost use Rattle.doc_model.specs.Cells.{text_place};
+
 use crate::row::Kind;
 
 /// What is free in a table.
 #[derive(Clone, Copy, Debug, PartialEq, Eq)]
 pub struct Room {
     pub rows: u32,
-    /// Bytes.
+    /// Bytes: seven times the number of text words that aren't used.
     pub text: u64,
     /// Types and prefixes together.
     pub names: u32,
@@ -53,4 +56,13 @@ pub enum Join {
     FirstOf(u32),
     /// The sibling after this row.
     NextOf(u32),
+}
+
+/// Where a text begins that is filled behind so many bytes: at the least multiple of 7 that isn't below, as
+/// a word holds up to seven bytes and a text begins at a new word.
+pub fn text_place(end: u64) -> u64
+    requires { end < 2 ^ 63 }
+    ensures { result ≡ text_place end }
+{
+    7 * ((end + 6) / 7)
 }

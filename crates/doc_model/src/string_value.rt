@@ -15,7 +15,7 @@ pub fn value_by_filter(alloc: Global, rows: &[Row], n: u32) -> Result<List<u8>, 
     let row = &rows[n as usize];
     match row.kind {
         Kind::Root | Kind::Element => texts_below(alloc, rows, n as usize, row.depth),
-        Kind::Attribute | Kind::Text | Kind::Instruction => {
+        Kind::Attribute | Kind::Text | Kind::Instruction | Kind::Comment => {
             List::from_slice(alloc, row.value.as_slice())
         }
     }

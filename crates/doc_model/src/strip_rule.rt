@@ -9,9 +9,12 @@ pub struct StripRule {
     pub uri: Option<List<u8>>,
     /// The local name; without it, every name of the namespace.
     pub local: Option<List<u8>>,
+    /// The import precedence (XSLT 1.0, section 2.6.2): a higher one holds over a lower one.
+    pub precedence: u32,
 }
 
-/// The rules of a stylesheet in their order: of equal priorities the later holds.
+/// The rules of a stylesheet in their order: the higher import precedence holds, then the higher default
+/// priority, then the later.
 #[derive(Clone, Debug, Drop, PartialEq, Eq)]
 pub struct StripRules {
     pub rules: List<StripRule>,

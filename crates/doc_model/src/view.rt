@@ -21,6 +21,10 @@ pub trait NodeView {
     /// What was seen.
     ghost sees: { Self → Seen Mark };
 
+    /// What holds of the view at any time. Does nothing.
+    fn told(&mut self)
+        ensures { Moves (sees self.old) (sees self.new) };
+
     fn kind(&mut self, n: u32) -> Kind
         requires { IsJoined (sees self.old).steps n }
         ensures moves { Moves (sees self.old) (sees self.new) }

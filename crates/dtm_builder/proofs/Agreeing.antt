@@ -6,15 +6,14 @@ use Rattle.std.proofs.lemmas.Bool.{cases_Bool, and_from, eq-eqb, false≢true}
 use Rattle.std.proofs.lemmas.List.Sums.{sum_by-cons, sum-map}
 use Rattle.std.proofs.lemmas.Slice.Eq.{bytes_eq-Decides}
 use Rattle.doc_model.specs.declared.row.Kind.{Kind}
-use Rattle.doc_model.specs.declared.row.Kind.TheVariants.{Root, Element, Attribute, Text, Instruction}
+use Rattle.doc_model.specs.declared.row.Kind.TheVariants.{Root, Element, Attribute, Text, Instruction, Comment}
 use Rattle.doc_model.specs.declared.row.Row.{Row}
 use Rattle.doc_model.specs.Legible.{is_empty}
 use Rattle.name_pool.specs.Names.{Name}
-use Rattle.node_writer.specs.Taken as taken
-use Rattle.node_writer.specs.Taken.{is_same, is_name_of, is_prefix_of, has_name, name_of_row, names_with, names_from, names_of, prefixes_with, prefixes_from, prefixes_of, name_bytes, prefix_bytes}
+use Rattle.node_writer.specs.Taken.{is_same, is_name_of, is_prefix_of, has_name, name_of_row, names_from, prefixes_from, name_bytes, prefix_bytes}
 use Rattle.node_writer.proofs.Names.{same_is}
-use Rattle.pyx_events.specs.Counted as counting
-use Rattle.pyx_events.specs.Counted.{same_type, types, prefixes, row_names}
+use Rattle.doc_model.specs.Numbers.{kind_number}
+use Rattle.pyx_events.specs.Counted.{is_nameless, same_type, types, prefixes}
 use Rattle.dtm_builder.proofs.Counting.{has, with_new, first_seen, last_seen, same_sum}
 
 -- no row is the root
@@ -67,13 +66,6 @@ table_prefixes seen (row ∷ rows) = elim (cases_Bool (is_empty row.prefix)) [
 ]
 
 -- the lists of the flaws' definition keep the last of equal items
-same_number : (kind : Kind) → counting.kind_number kind ≡ taken.kind_number kind
-same_number Root = refl
-same_number Element = refl
-same_number Attribute = refl
-same_number Text = refl
-same_number Instruction = refl
-
 turned : (a b : Bool) → (a && b) ≡ (b && a)
 turned true true = refl
 turned true false = refl
@@ -83,19 +75,23 @@ turned false false = refl
 type_is_name : (a b : Row) → same_type a b ≡ is_same (name_of_row a) (name_of_row b)
 type_is_name a b =
     ap₂ (λ x y. x && y)
-    (ap₂ (λ m n. m == n) (same_number a.kind) (same_number b.kind))
+    refl
     (turned (bytes_eq a.local b.local) (bytes_eq a.uri b.uri))
 
 -- a row with a name has not the type of one without
-kinds_differ : (a b : Kind) → has_name a ≡ true → has_name b ≡ false → (taken.kind_number a == taken.kind_number b) ≡ false
+kinds_differ : (a b : Kind) → has_name a ≡ true → has_name b ≡ false → (kind_number a == kind_number b) ≡ false
 kinds_differ Root b h n = absurd (false≢true h)
 kinds_differ Text b h n = absurd (false≢true h)
+kinds_differ Comment b h n = absurd (false≢true h)
 kinds_differ Element Root h n = refl
 kinds_differ Element Text h n = refl
+kinds_differ Element Comment h n = refl
 kinds_differ Attribute Root h n = refl
 kinds_differ Attribute Text h n = refl
+kinds_differ Attribute Comment h n = refl
 kinds_differ Instruction Root h n = refl
 kinds_differ Instruction Text h n = refl
+kinds_differ Instruction Comment h n = refl
 kinds_differ Element Element h n = absurd (false≢true (sym n))
 kinds_differ Element Attribute h n = absurd (false≢true (sym n))
 kinds_differ Element Instruction h n = absurd (false≢true (sym n))
@@ -115,24 +111,25 @@ type_among row (other ∷ rows) h = elim (cases_Bool (has_name other.kind)) [
       rw (e, none) (type_among row rows h)
 ]
 
-named_kind : (kind : Kind) → kind ≢ Root → (counting.kind_number kind == 3) ≡ cond (has_name kind) false true
+named_kind : (kind : Kind) → kind ≢ Root → is_nameless kind ≡ cond (has_name kind) false true
 named_kind Root h = absurd (h refl)
 named_kind Element h = refl
 named_kind Attribute h = refl
 named_kind Text h = refl
 named_kind Instruction h = refl
+named_kind Comment h = refl
 
 type_names : (rows : List Row) → HaveNoRoot rows → map name_of_row (types rows) ≡ last_seen is_same (keys rows)
 type_names [] h = refl
 type_names (row ∷ rows) h = elim (cases_Bool (has_name row.kind)) [
   | inl e ↦
-      let kind : (counting.kind_number row.kind == 3) ≡ false = named_kind row.kind h.0 ∙ ap (λ b. cond b false true) e in
+      let kind : is_nameless row.kind ≡ false = named_kind row.kind h.0 ∙ ap (λ b. cond b false true) e in
       elim (cases_Bool (list_any (same_type row) rows)) [
         | inl f ↦ rw (e, kind, f, sym (type_among row rows e) ∙ f) (type_names rows h.1)
         | inr f ↦ rw (e, kind, f, sym (type_among row rows e) ∙ f) (ap (λ names. name_of_row row ∷ names) (type_names rows h.1))
       ]
   | inr e ↦
-      let kind : (counting.kind_number row.kind == 3) ≡ true = named_kind row.kind h.0 ∙ ap (λ b. cond b false true) e in
+      let kind : is_nameless row.kind ≡ true = named_kind row.kind h.0 ∙ ap (λ b. cond b false true) e in
       rw (e, kind) (type_names rows h.1)
 ]
 

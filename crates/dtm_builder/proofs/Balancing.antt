@@ -8,7 +8,7 @@ use Rattle.doc_model.specs.declared.flaw.FlawKind.{FlawKind}
 use Rattle.doc_model.specs.declared.flaw.FlawKind.TheVariants as kind
 use Rattle.doc_model.specs.declared.limits.Limits.{Limits}
 use Rattle.pyx_lines.specs.declared.line.Line.{Line}
-use Rattle.pyx_lines.specs.declared.line.Line.TheVariants.{Start, End, Attr, Text, Instruction, Passed}
+use Rattle.pyx_lines.specs.declared.line.Line.TheVariants.{Start, End, Attr, Text, Instruction, Comment, Passed}
 use Rattle.pyx_events.specs.Before.{is_start, is_end, depth, innermost, completed_start}
 use Rattle.pyx_events.specs.Counted.{names_of}
 use Rattle.pyx_events.specs.Nodes.{events_to}
@@ -69,6 +69,7 @@ balanced limits (End name ∷ before) f =
 balanced limits (Attr name value ∷ before) f = other (Attr name value) before refl refl (λ k. refl) (balanced limits before f.1)
 balanced limits (Text text ∷ before) f = other (Text text) before refl refl (λ k. refl) (balanced limits before f.1)
 balanced limits (Instruction target value ∷ before) f = other (Instruction target value) before refl refl (λ k. refl) (balanced limits before f.1)
+balanced limits (Comment text ∷ before) f = other (Comment text) before refl refl (λ k. refl) (balanced limits before f.1)
 balanced limits (Passed ∷ before) f = other Passed before refl refl (λ k. refl) (balanced limits before f.1)
 
 -- where an end has no flaw, an element is open
@@ -81,4 +82,5 @@ open_at_end limits before (End name) f h e =
 open_at_end limits before (Attr name value) f h e = absurd (false≢true e)
 open_at_end limits before (Text text) f h e = absurd (false≢true e)
 open_at_end limits before (Instruction target value) f h e = absurd (false≢true e)
+open_at_end limits before (Comment text) f h e = absurd (false≢true e)
 open_at_end limits before Passed f h e = absurd (false≢true e)

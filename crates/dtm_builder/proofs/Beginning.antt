@@ -8,7 +8,8 @@ use Rattle.pyx_lines.specs.Lines.{Refusal}
 use Rattle.pyx_events.specs.Flaw.{or_flaw, flaw_from, line_flaw}
 use Rattle.pyx_events.specs.Nodes.{events_to, line_events}
 use Rattle.pyx_events.specs.Steps.{bad_or, steps_of_events, steps_through, steps_from}
-use Rattle.dtm_builder.specs.Lines.{AreFlawless, in_source}
+use Rattle.pyx_events.specs.Judged.{in_source}
+use Rattle.dtm_builder.specs.Lines.{AreFlawless}
 use Rattle.dtm_builder.proofs.Opening.{steps_join}
 
 abbrev given : Line → Result Line Refusal

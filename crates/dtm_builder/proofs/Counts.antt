@@ -7,14 +7,14 @@ use Rattle.doc_model.specs.Rows.{root_row, rows_of}
 use Rattle.name_pool.specs.Names.{Name}
 use Rattle.xml_names.specs.declared.scopes.Binding.{Binding}
 use Rattle.pyx_lines.specs.declared.line.Line.{Line}
-use Rattle.pyx_lines.specs.declared.line.Line.TheVariants.{Start, End, Attr, Text, Instruction, Passed}
+use Rattle.pyx_lines.specs.declared.line.Line.TheVariants.{Start, End, Attr, Text, Instruction, Comment, Passed}
 use Rattle.pyx_events.specs.declared.event.Event.{Event}
 use Rattle.pyx_events.specs.declared.event.Event.TheVariants as event
 use Rattle.pyx_events.specs.declared.pending_start.Attribute.{Attribute}
 use Rattle.pyx_events.specs.declared.pending_start.PendingStart.{PendingStart}
-use Rattle.pyx_events.specs.Before.{depth, completed_start, pending_text, is_declaration, bindings}
+use Rattle.pyx_events.specs.Before.{depth, completed_start, pending_text, is_declaration, bindings, uris_to}
 use Rattle.pyx_events.specs.Counted.{Names, names_of}
-use Rattle.pyx_events.specs.Nodes.{attribute_rows, start_node, completed, instruction_row, ended_text, own_events, line_events, events_to, node_rows}
+use Rattle.pyx_events.specs.Nodes.{attribute_rows, start_node, completed, plain_node, instruction_row, comment_row, ended_text, own_events, line_events, events_to, node_rows}
 use Rattle.pyx_events.specs.Steps.{steps_of_events}
 use Rattle.node_writer.specs.declared.new_names.NewNames.{NewNames}
 use Rattle.node_writer.specs.New.{capped, names_bytes, has_new_name, has_type_of, AddsNames}
@@ -41,7 +41,7 @@ names_before before = names_are (events_to before) (no_root before)
 
 pub names_started : (before : List Line) (start : Option PendingStart) → names_of false (events_to before ++ completed before start) ≡ table_names (rows_of (steps_of_events (events_to before)) ++ node_rows (completed before start))
 names_started before start =
-    names_are (events_to before ++ completed before start) (no_root_both (events_to before) (completed before start) (no_root before) (start_no_root (bindings 0 before) (depth before) start))
+    names_are (events_to before ++ completed before start) (no_root_both (events_to before) (completed before start) (no_root before) (start_no_root (uris_to before) (bindings 0 before) (depth before) start))
     ∙ ap table_names (rows_after (events_to before) (completed before start))
 
 names_all : (before : List Line) (line : Line) → names_of false (events_to (line ∷ before)) ≡ table_names ((rows_of (steps_of_events (events_to before)) ++ node_rows (completed before (completed_start before line))) ++ node_rows (own_events before line))
@@ -65,9 +65,9 @@ attributes_differ bound deep n target value (it ∷ lines) = elim (cases_Bool (i
   | inr e ↦ rw e (attributes_differ bound deep n target value lines)
 ]
 
-start_differs : (bound : List Binding) (deep n : ℕ) (target value : List ℕ) (start : Option PendingStart) → has_type_of (instruction_row n target value) (node_rows (start_node bound deep start)) ≡ false
-start_differs bound deep n target value None = refl
-start_differs bound deep n target value (Some it) =
+start_differs : (uris : List (List ℕ)) (bound : List Binding) (deep n : ℕ) (target value : List ℕ) (start : Option PendingStart) → has_type_of (instruction_row n target value) (node_rows (start_node uris bound deep start)) ≡ false
+start_differs uris bound deep n target value None = refl
+start_differs uris bound deep n target value (Some it) =
     ap (has_type_of (instruction_row n target value)) (append-nil (attribute_rows bound (deep + 1) it.attributes)) ∙ attributes_differ bound (deep + 1) n target value it.attributes
 
 -- an instruction's target is as new after the element as before it
@@ -122,6 +122,11 @@ plain_adds before line own none a =
 nothing : AddsNone []
 nothing = ((λ seen. refl), (λ seen. refl))
 
+-- a comment has no name
+comment_adds : (before : List Line) (text : List ℕ) → AddsNone (own_events before (Comment text))
+comment_adds before text =
+    both_add_none (ended_text before) (plain_node (comment_row (depth before + 1) text) (length before + 1) ∷ []) (text_adds_none (depth before + 1) (length before + 1) (pending_text before)) ((λ seen. refl), (λ seen. refl))
+
 -- what the line's own node adds to the names after the start that it completes
 pub own_adds : (before : List Line) (line : Line) (own : NewNames) → AddsNames (rows_of (steps_of_events (events_to before))) (own_rows line) own
     → Adds (table_names (rows_of (steps_of_events (events_to before)) ++ node_rows (completed before (completed_start before line)))) own (names_of false (events_to (line ∷ before)))
@@ -136,16 +141,17 @@ own_adds before (Instruction target value) own a =
     let all = rows ++ node_rows (completed before start) in
     let none = text_adds_none (depth before + 1) (length before + 1) (pending_text before) in
     let texts = node_rows (ended_text before) in
-    let node = event.Node (instruction_row (depth before + 1) target value) [] [] (length before + 1) in
+    let node = plain_node (instruction_row (depth before + 1) target value) (length before + 1) in
     let target_row = instruction_row 0 target [] in
     let here : names_of false (events_to (Instruction target value ∷ before)) ≡ table_names ((all ++ texts) ++ instruction_row (depth before + 1) target value ∷ []) =
     names_all before (Instruction target value) ∙ ap (λ (more : List Row). table_names (all ++ more)) (rows_join (ended_text before) (node ∷ [])) ∙ ap table_names (sym (append_assoc all texts (instruction_row (depth before + 1) target value ∷ []))) in
     let names : names_from [] (all ++ texts) ≡ names_from [] all = names_from-append [] all texts ∙ none.0 (names_from [] all) in
     let same : has_new_name rows target_row ≡ has_new_name (all ++ texts) target_row =
-    still_new rows (node_rows (completed before start)) target_row (start_differs (bindings 0 before) (depth before) 0 target [] start)
+    still_new rows (node_rows (completed before start)) target_row (start_differs (uris_to before) (bindings 0 before) (depth before) 0 target [] start)
     ∙ ap (λ (it : List Name). not (is_name_of (name_of_row target_row) it)) (sym names) in
     subst (λ (first : Names). Adds first own (names_of false (events_to (Instruction target value ∷ before)))) (none_more all (ended_text before) none)
     (subst (λ (last : Names). Adds (table_names (all ++ texts)) own last) (sym here) (instruction_adds rows (all ++ texts) (depth before + 1) target value own a same))
+own_adds before (Comment text) own a = plain_adds before (Comment text) own (comment_adds before text) a
 own_adds before Passed own a = plain_adds before Passed own nothing a
 
 -- what a target adds
@@ -191,6 +197,7 @@ is_instruction (End name) = false
 is_instruction (Attr name value) = false
 is_instruction (Text text) = false
 is_instruction (Instruction target value) = true
+is_instruction (Comment text) = false
 is_instruction Passed = false
 
 plain_same : (before : List Line) (line : Line) → AddsNone (own_events before line) → names_of false (events_to (line ∷ before)) ≡ names_of false (events_to before ++ completed before (completed_start before line))
@@ -207,4 +214,5 @@ names_kept before (End name) h =
 names_kept before (Attr name value) h = plain_same before (Attr name value) nothing
 names_kept before (Text text) h = plain_same before (Text text) nothing
 names_kept before (Instruction target value) h = absurd (false≢true (sym h))
+names_kept before (Comment text) h = plain_same before (Comment text) (comment_adds before text)
 names_kept before Passed h = plain_same before Passed nothing

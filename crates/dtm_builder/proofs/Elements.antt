@@ -6,13 +6,13 @@ use Rattle.doc_model.specs.declared.flaw.FlawKind.{FlawKind}
 use Rattle.doc_model.specs.declared.row.Row.{Row}
 use Rattle.xml_names.specs.declared.scopes.Binding.{Binding}
 use Rattle.pyx_lines.specs.declared.line.Line.{Line}
-use Rattle.pyx_lines.specs.declared.line.Line.TheVariants.{Start, End, Attr, Text, Instruction, Passed}
+use Rattle.pyx_lines.specs.declared.line.Line.TheVariants.{Start, End, Attr, Text, Instruction, Comment, Passed}
 use Rattle.pyx_events.specs.declared.event.Event.{Event}
 use Rattle.pyx_events.specs.declared.event.Event.TheVariants.{Node, Shut}
 use Rattle.pyx_events.specs.declared.pending_start.PendingStart.{PendingStart}
-use Rattle.pyx_events.specs.Before.{completed_start, depth, pending_text, bindings}
+use Rattle.pyx_events.specs.Before.{completed_start, depth, pending_text, bindings, uris_to}
 use Rattle.pyx_events.specs.Flaw.{at_line, if_pending, start_line}
-use Rattle.pyx_events.specs.Nodes.{element_row, start_node, completed, instruction_row, text_node, ended_text, own_events, line_events, node_rows, attribute_rows}
+use Rattle.pyx_events.specs.Nodes.{element_row, start_node, completed, plain_node, instruction_row, comment_row, text_node, ended_text, own_events, line_events, node_rows, attribute_rows}
 use Rattle.node_writer.specs.declared.new_names.NewNames.{NewNames}
 use Rattle.node_writer.specs.New.{AddsNames}
 use Rattle.dtm_builder.specs.Judging.{table_names, Adds, is_element, element_rows, element_flaw}
@@ -27,11 +27,11 @@ pub at_first : (events : List Event) (x : Event) → slice_get events 0 ≡ Some
 at_first [] x h = absurd (none_some x h)
 at_first (y ∷ rest) x h = (rest, ap (λ z. z ∷ rest) (some_is y x h))
 
-pub rows_first : (events rest : List Event) (row : Row) (attributes : List Row) (declarations : List Binding) (line : ℕ) → events ≡ Node row attributes declarations line ∷ rest → is_element row.kind ≡ true → element_rows events ≡ row ∷ attributes
-rows_first events rest row attributes declarations line e h = ap element_rows e ∙ ap (λ b. cond b (row ∷ attributes) []) h
+pub rows_first : (events rest : List Event) (row : Row) (attributes : List Row) (declarations : List Binding) (uris : List ℕ) (line : ℕ) → events ≡ Node row attributes declarations uris line ∷ rest → is_element row.kind ≡ true → element_rows events ≡ row ∷ attributes
+rows_first events rest row attributes declarations uris line e h = ap element_rows e ∙ ap (λ b. cond b (row ∷ attributes) []) h
 
-pub flaw_first : (events rest : List Event) (row : Row) (attributes : List Row) (declarations : List Binding) (line : ℕ) (kind : Option FlawKind) → events ≡ Node row attributes declarations line ∷ rest → is_element row.kind ≡ true → element_flaw events kind ≡ at_line line kind None
-flaw_first events rest row attributes declarations line kind e h = ap (λ all. element_flaw all kind) e ∙ ap (λ b. cond b (at_line line kind None) None) h
+pub flaw_first : (events rest : List Event) (row : Row) (attributes : List Row) (declarations : List Binding) (uris : List ℕ) (line : ℕ) (kind : Option FlawKind) → events ≡ Node row attributes declarations uris line ∷ rest → is_element row.kind ≡ true → element_flaw events kind ≡ at_line line kind None
+flaw_first events rest row attributes declarations uris line kind e h = ap (λ all. element_flaw all kind) e ∙ ap (λ b. cond b (at_line line kind None) None) h
 
 pub adds_of : (rows more : List Row) (new : NewNames) → AddsNames rows more new → Adds (table_names rows) new (table_names (rows ++ more))
 adds_of rows more new a = record { count_added = a.count_added; bytes_added = a.bytes_added; all_counted = a.all_counted; all_bytes = a.all_bytes; count = a.count; bytes = a.bytes }
@@ -55,7 +55,8 @@ own_none before (Start name) = subst HasNone (append-nil (ended_text before)) (t
 own_none before (End name) = text_none (depth before + 1) (length before + 1) (pending_text before) (Shut ∷ []) (record { rows = refl; flaw = λ kind. refl })
 own_none before (Attr name value) = nothing
 own_none before (Text text) = nothing
-own_none before (Instruction target value) = text_none (depth before + 1) (length before + 1) (pending_text before) (Node (instruction_row (depth before + 1) target value) [] [] (length before + 1) ∷ []) (record { rows = refl; flaw = λ kind. refl })
+own_none before (Instruction target value) = text_none (depth before + 1) (length before + 1) (pending_text before) (plain_node (instruction_row (depth before + 1) target value) (length before + 1) ∷ []) (record { rows = refl; flaw = λ kind. refl })
+own_none before (Comment text) = text_none (depth before + 1) (length before + 1) (pending_text before) (plain_node (comment_row (depth before + 1) text) (length before + 1) ∷ []) (record { rows = refl; flaw = λ kind. refl })
 own_none before Passed = nothing
 
 -- the first of a line's events is the node of the start that it completes, if there is one
@@ -63,12 +64,12 @@ pub record IsFirst (events node : List Event) (start : Option PendingStart) : Ty
   pub rows : element_rows events ≡ node_rows node
   pub flaw : (kind : Option FlawKind) → element_flaw events kind ≡ at_line (start_line start) (if_pending start kind) None
 
-start_first : (bound : List Binding) (deep : ℕ) (start : Option PendingStart) (more : List Event) → HasNone more → IsFirst (start_node bound deep start ++ more) (start_node bound deep start) start
-start_first bound deep None more h = record { rows = h.rows; flaw = h.flaw }
-start_first bound deep (Some it) more h = record { rows = ap (λ (rows : List Row). element_row bound deep it.name ∷ rows) (sym (append-nil (attribute_rows bound (deep + 1) it.attributes))); flaw = λ kind. refl }
+start_first : (uris : List (List ℕ)) (bound : List Binding) (deep : ℕ) (start : Option PendingStart) (more : List Event) → HasNone more → IsFirst (start_node uris bound deep start ++ more) (start_node uris bound deep start) start
+start_first uris bound deep None more h = record { rows = h.rows; flaw = h.flaw }
+start_first uris bound deep (Some it) more h = record { rows = ap (λ (rows : List Row). element_row bound deep it.name ∷ rows) (sym (append-nil (attribute_rows bound (deep + 1) it.attributes))); flaw = λ kind. refl }
 
 pub line_first : (before : List Line) (line : Line) → IsFirst (line_events before line) (completed before (completed_start before line)) (completed_start before line)
-line_first before line = start_first (bindings 0 before) (depth before) (completed_start before line) (own_events before line) (own_none before line)
+line_first before line = start_first (uris_to before) (bindings 0 before) (depth before) (completed_start before line) (own_events before line) (own_none before line)
 
 pub node_first : (before : List Line) (start : Option PendingStart) → IsFirst (completed before start) (completed before start) start
-node_first before start = subst (λ (events : List Event). IsFirst events (completed before start) start) (append-nil (completed before start)) (start_first (bindings 0 before) (depth before) start [] nothing)
+node_first before start = subst (λ (events : List Event). IsFirst events (completed before start) start) (append-nil (completed before start)) (start_first (uris_to before) (bindings 0 before) (depth before) start [] nothing)

@@ -15,7 +15,7 @@ use Rattle.doc_model.specs.Strip.{is_white}
 use Rattle.name_grammar.specs.Names.{prefix_of}
 use Rattle.xml_names.specs.declared.scopes.Binding.{Binding}
 use Rattle.pyx_lines.specs.declared.line.Line.{Line}
-use Rattle.pyx_lines.specs.declared.line.Line.TheVariants.{Start, End, Attr, Text, Instruction, Passed}
+use Rattle.pyx_lines.specs.declared.line.Line.TheVariants.{Start, End, Attr, Text, Instruction, Comment, Passed}
 use Rattle.pyx_events.specs.declared.event.Event.{Event}
 use Rattle.pyx_events.specs.declared.pending_start.PendingStart.{PendingStart}
 use Rattle.pyx_events.specs.Before.{has_root, with_attribute, depth, pending_start, completed_start, is_declaration, bindings, begins_text, row_count, value_bytes}
@@ -204,6 +204,11 @@ own_judged limits before (Instruction target value) all values h j i =
     instruction_same (row_count before == limits.rows) (nat_lt limits.names 0) (nat_lt limits.text (bytes + 0 + length value)) (nat_lt limits.names all.count) (nat_lt limits.text (bytes + all.bytes + length value))
     kind.TooManyNodes kind.TooManyNames kind.TooMuchText h
     ∙ ap (λ b. cond (nat_lt limits.names all.count) (Some kind.TooManyNames) (cond b (Some kind.TooMuchText) None)) test
+own_judged limits before (Comment text) all values h j i =
+    let bytes = value_bytes before in
+    let test = judged_test limits.text bytes all.bytes (length text) 0 (length text) j.given values j.small j.capped j.larger (omega arith) (omega arith) (inl refl) in
+    text_same false (row_count before == limits.rows) (nat_lt limits.text (bytes + 0 + length text)) (nat_lt limits.text (bytes + all.bytes + length text)) kind.TextOutside kind.TooManyNodes kind.TooMuchText h
+    ∙ ap (λ b. cond b (Some kind.TooMuchText) None) test ∙ only_text limits all values (IsIn.count (i refl))
 own_judged limits before Passed all values h j i = h ∙ sym (quiet_line limits (value_bytes before) j.given values all j.small j.capped j.larger (i refl))
 
 -- where names aside there is one, it is the same with the names counted, but that too many come before too much text
@@ -261,6 +266,10 @@ own_refused limits before (Text text) all it h few =
 own_refused limits before (Instruction target value) all it h few =
     instruction_flaw (row_count before == limits.rows) (nat_lt limits.names 0) (nat_lt limits.text (value_bytes before + 0 + length value)) (nat_lt limits.names all.count) (nat_lt limits.text (value_bytes before + all.bytes + length value)) it
     (not_over limits.names 0 (omega arith)) (more_text limits.text (value_bytes before) all.bytes (length value)) h
+own_refused limits before (Comment text) all it h few =
+    text_flaw false (row_count before == limits.rows) (nat_lt limits.text (value_bytes before + 0 + length text)) (nat_lt limits.text (value_bytes before + all.bytes + length text))
+    kind.TextOutside kind.TooManyNodes kind.TooMuchText it (more_text limits.text (value_bytes before) all.bytes (length text)) h
+    ∙ few_kind limits all it (few refl)
 own_refused limits before Passed all it h few = h ∙ few_kind limits all it (few refl)
 
 -- the names after the line are within the limits, where those after the start that it completes are
@@ -416,6 +425,7 @@ pending_open limits (Attr name value ∷ before) f h =
     with_pending name value (Some it) h = refl
 pending_open limits (Text text ∷ before) f h = absurd (false≢true h)
 pending_open limits (Instruction target value ∷ before) f h = absurd (false≢true h)
+pending_open limits (Comment text ∷ before) f h = absurd (false≢true h)
 pending_open limits (Passed ∷ before) f h = omega (arith, depth_other Passed before refl refl, pending_open limits before f.1 h)
 
 none_pending : (start : Option PendingStart) → (is_some start ≡ true → ⊥) → start ≡ None

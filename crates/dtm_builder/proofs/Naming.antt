@@ -10,14 +10,14 @@ use Rattle.doc_model.specs.declared.limits.Limits.{Limits}
 use Rattle.doc_model.specs.declared.row.Row.{Row}
 use Rattle.doc_model.specs.Strip.{is_white}
 use Rattle.pyx_lines.specs.declared.line.Line.{Line}
-use Rattle.pyx_lines.specs.declared.line.Line.TheVariants.{Start, End, Attr, Text, Instruction, Passed}
+use Rattle.pyx_lines.specs.declared.line.Line.TheVariants.{Start, End, Attr, Text, Instruction, Comment, Passed}
 use Rattle.pyx_events.specs.declared.event.Event.{Event}
 use Rattle.pyx_events.specs.declared.event.Event.TheVariants as event
 use Rattle.pyx_events.specs.declared.pending_start.PendingStart.{PendingStart}
 use Rattle.xml_names.specs.declared.scopes.Binding.{Binding}
 use Rattle.pyx_events.specs.Before.{depth, pending_start, pending_text, is_declaration, begins_text, row_count, value_bytes}
 use Rattle.pyx_events.specs.Counted.{Names, names_of}
-use Rattle.pyx_events.specs.Nodes.{attribute_rows, start_node, completed, text_node, ended_text, own_events, line_events, events_to, node_rows}
+use Rattle.pyx_events.specs.Nodes.{attribute_rows, start_node, completed, plain_node, instruction_row, comment_row, text_node, ended_text, own_events, line_events, events_to, node_rows}
 use Rattle.pyx_events.specs.Flaw.{names_flaw, or_kind, is_full, completed_flaw}
 use Rattle.node_writer.specs.Taken.{names_from, prefixes_from, name_bytes, prefix_bytes}
 use Rattle.dtm_builder.specs.Lines.{AreFlawless}
@@ -44,9 +44,9 @@ attributes_no_root bound deep it = along it.attributes
       | inr e ↦ rw e ((λ h. cc), along lines)
     ]
 
-pub start_no_root : (bound : List Binding) (deep : ℕ) (it : Option PendingStart) → HaveNoRoot (node_rows (start_node bound deep it))
-start_no_root bound deep None = tt
-start_no_root bound deep (Some it) = ((λ h. cc), subst HaveNoRoot (sym (append-nil (attribute_rows bound (deep + 1) it.attributes))) (attributes_no_root bound (deep + 1) it))
+pub start_no_root : (uris : List (List ℕ)) (bound : List Binding) (deep : ℕ) (it : Option PendingStart) → HaveNoRoot (node_rows (start_node uris bound deep it))
+start_no_root uris bound deep None = tt
+start_no_root uris bound deep (Some it) = ((λ h. cc), subst HaveNoRoot (sym (append-nil (attribute_rows bound (deep + 1) it.attributes))) (attributes_no_root bound (deep + 1) it))
 
 text_no_root : (n line : ℕ) (text : List ℕ) → HaveNoRoot (node_rows (text_node n text line))
 text_no_root n line text = elim (cases_Bool (length text == 0)) [
@@ -55,15 +55,18 @@ text_no_root n line text = elim (cases_Bool (length text == 0)) [
 ]
 
 pub line_no_root : (before : List Line) (line : Line) → HaveNoRoot (node_rows (line_events before line))
-line_no_root before (Start name) = no_root_both (completed before (pending_start before)) (ended_text before) (start_no_root _ _ (pending_start before)) (text_no_root _ _ (pending_text before))
+line_no_root before (Start name) = no_root_both (completed before (pending_start before)) (ended_text before) (start_no_root _ _ _ (pending_start before)) (text_no_root _ _ (pending_text before))
 line_no_root before (End name) =
-    no_root_both (completed before (pending_start before)) (ended_text before ++ event.Shut ∷ []) (start_no_root _ _ (pending_start before))
+    no_root_both (completed before (pending_start before)) (ended_text before ++ event.Shut ∷ []) (start_no_root _ _ _ (pending_start before))
     (no_root_both (ended_text before) (event.Shut ∷ []) (text_no_root _ _ (pending_text before)) tt)
 line_no_root before (Attr name value) = tt
-line_no_root before (Text text) = no_root_both (completed before (pending_start before)) [] (start_no_root _ _ (pending_start before)) tt
+line_no_root before (Text text) = no_root_both (completed before (pending_start before)) [] (start_no_root _ _ _ (pending_start before)) tt
 line_no_root before (Instruction target value) =
-    no_root_both (completed before (pending_start before)) (own_events before (Instruction target value)) (start_no_root _ _ (pending_start before))
-    (no_root_both (ended_text before) (event.Node (record { kind = _; prefix = []; uri = []; local = target; value = value; depth = depth before + 1 }) [] [] (length before + 1) ∷ []) (text_no_root _ _ (pending_text before)) ((λ h. cc), tt))
+    no_root_both (completed before (pending_start before)) (own_events before (Instruction target value)) (start_no_root _ _ _ (pending_start before))
+    (no_root_both (ended_text before) (plain_node (instruction_row (depth before + 1) target value) (length before + 1) ∷ []) (text_no_root _ _ (pending_text before)) ((λ h. cc), tt))
+line_no_root before (Comment text) =
+    no_root_both (completed before (pending_start before)) (own_events before (Comment text)) (start_no_root _ _ _ (pending_start before))
+    (no_root_both (ended_text before) (plain_node (comment_row (depth before + 1) text) (length before + 1) ∷ []) (text_no_root _ _ (pending_text before)) ((λ h. cc), tt))
 line_no_root before Passed = tt
 
 pub no_root : (before : List Line) → HaveNoRoot (node_rows (events_to before))
@@ -138,13 +141,13 @@ pub within : (limits : Limits) (before : List Line) → AreFlawless limits befor
 within limits [] f = record { count = omega arith; bytes = omega arith }
 within limits (Start name ∷ before) f =
     let c = completed_in limits before (pending_start before) (start_good limits before (Start name) f.0) (within limits before f.1) in
-    let r = no_root_both (events_to before) (completed before (pending_start before)) (no_root before) (start_no_root _ _ (pending_start before)) in
+    let r = no_root_both (events_to before) (completed before (pending_start before)) (no_root before) (start_no_root _ _ _ (pending_start before)) in
     let s = same_after limits (value_bytes before) (events_to before ++ completed before (pending_start before)) (ended_text before) r (text_no_root _ _ (pending_text before)) (text_adds_none _ _ (pending_text before)) c in
     let t = subst (λ events. IsIn limits (value_bytes before) (names_of false events)) (append_assoc (events_to before) (completed before (pending_start before)) (ended_text before)) s in
     record { count = t.count; bytes = omega (arith, t.bytes) }
 within limits (End name ∷ before) f =
     let c = completed_in limits before (pending_start before) (start_good limits before (End name) f.0) (within limits before f.1) in
-    let r = no_root_both (events_to before) (completed before (pending_start before)) (no_root before) (start_no_root _ _ (pending_start before)) in
+    let r = no_root_both (events_to before) (completed before (pending_start before)) (no_root before) (start_no_root _ _ _ (pending_start before)) in
     let own = ended_text before ++ event.Shut ∷ [] in
     let none = both_add_none (ended_text before) (event.Shut ∷ []) (text_adds_none _ _ (pending_text before)) ((λ seen. refl), (λ seen. refl)) in
     let s = same_after limits (value_bytes before) (events_to before ++ completed before (pending_start before)) own r (no_root_both (ended_text before) (event.Shut ∷ []) (text_no_root _ _ (pending_text before)) tt) none c in
@@ -172,6 +175,17 @@ within limits (Instruction target value ∷ before) f =
     let good = three_good (row_count before == limits.rows) (nat_lt limits.names (Names.count (names_of false (events_to (Instruction target value ∷ before))))) (nat_lt limits.text (value_bytes before + Names.bytes (names_of false (events_to (Instruction target value ∷ before))) + length value)) kind.TooManyNodes kind.TooManyNames kind.TooMuchText (own_good limits before (Instruction target value) f.0) in
     let fits = at_most limits.text (value_bytes before + Names.bytes (names_of false (events_to (Instruction target value ∷ before))) + length value) good.1 in
     record { count = at_most limits.names (Names.count (names_of false (events_to (Instruction target value ∷ before)))) good.0; bytes = omega (arith, fits) }
+within limits (Comment text ∷ before) f =
+    let c = completed_in limits before (pending_start before) (start_good limits before (Comment text) f.0) (within limits before f.1) in
+    let r = no_root_both (events_to before) (completed before (pending_start before)) (no_root before) (start_no_root _ _ _ (pending_start before)) in
+    let node = plain_node (comment_row (depth before + 1) text) (length before + 1) ∷ [] in
+    let own = ended_text before ++ node in
+    let none = both_add_none (ended_text before) node (text_adds_none _ _ (pending_text before)) ((λ seen. refl), (λ seen. refl)) in
+    let s = same_after limits (value_bytes before) (events_to before ++ completed before (pending_start before)) own r (no_root_both (ended_text before) node (text_no_root _ _ (pending_text before)) ((λ h. cc), tt)) none c in
+    let t = subst (λ events. IsIn limits (value_bytes before) (names_of false events)) (append_assoc (events_to before) (completed before (pending_start before)) own) s in
+    let good = two_good (row_count before == limits.rows) (nat_lt limits.text (value_bytes before + Names.bytes (names_of false (events_to (Comment text ∷ before))) + length text)) kind.TooManyNodes kind.TooMuchText (own_good limits before (Comment text) f.0) in
+    let fits = at_most limits.text (value_bytes before + Names.bytes (names_of false (events_to (Comment text ∷ before))) + length text) good.1 in
+    record { count = t.count; bytes = omega (arith, fits) }
 within limits (Passed ∷ before) f =
     let i = subst (λ events. IsIn limits (value_bytes before) (names_of false events)) (sym (append-nil (events_to before))) (within limits before f.1) in
     record { count = i.count; bytes = omega (arith, i.bytes) }

@@ -12,13 +12,13 @@ use Rattle.doc_model.specs.Lawful.{AllAttributes, LawfulFrom}
 use Rattle.doc_model.specs.Legible.{all_legible}
 use Rattle.xml_names.specs.declared.scopes.Binding.{Binding}
 use Rattle.pyx_lines.specs.declared.line.Line.{Line}
-use Rattle.pyx_lines.specs.declared.line.Line.TheVariants.{Start, End, Attr, Text, Instruction, Passed}
+use Rattle.pyx_lines.specs.declared.line.Line.TheVariants.{Start, End, Attr, Text, Instruction, Comment, Passed}
 use Rattle.pyx_events.specs.declared.event.Event.{Event}
 use Rattle.pyx_events.specs.declared.event.Event.TheVariants as event
 use Rattle.pyx_events.specs.declared.pending_start.Attribute.{Attribute}
 use Rattle.pyx_events.specs.declared.pending_start.PendingStart.{PendingStart}
-use Rattle.pyx_events.specs.Before.{is_start, is_end, depth, with_attribute, pending_start, completed_start, pending_text, is_declaration, bindings}
-use Rattle.pyx_events.specs.Nodes.{element_row, attribute_rows, text_row, instruction_row, element_node, start_node, completed, text_node, ended_text, line_events}
+use Rattle.pyx_events.specs.Before.{is_start, is_end, depth, with_attribute, pending_start, completed_start, pending_text, is_declaration, bindings, uris_to}
+use Rattle.pyx_events.specs.Nodes.{element_row, attribute_rows, text_row, instruction_row, comment_row, plain_node, element_node, start_node, completed, text_node, ended_text, line_events}
 use Rattle.pyx_events.specs.Steps.{step_of, steps_of_events}
 use Rattle.dtm_builder.specs.Lines.{IsReadable}
 
@@ -77,9 +77,9 @@ abbrev pub IsLegibleStart : List Binding → ℕ → Option PendingStart → Typ
 IsLegibleStart bound deep None = Unit {0}
 IsLegibleStart bound deep (Some it) = all_legible (element_row bound deep it.name ∷ attribute_rows bound (deep + 1) it.attributes) ≡ true
 
-element_leads : (d : Document) (bound : List Binding) (deep : ℕ) (it : PendingStart) → IsOpen d deep → IsLegibleStart bound deep (Some it) → Leads d (steps_of_events (element_node bound deep it ∷ [])) (deep + 1)
-element_leads d bound deep it o l = record {
-  lawful = (o.going, record { kind = inl refl; depth = sym o.opened; bare = λ e. absurd (false≢true (sym e)); carried = all_attributes bound deep it.attributes; legible = l }, tt);
+element_leads : (d : Document) (uris : List (List ℕ)) (bound : List Binding) (deep : ℕ) (it : PendingStart) → IsOpen d deep → IsLegibleStart bound deep (Some it) → Leads d (steps_of_events (element_node uris bound deep it ∷ [])) (deep + 1)
+element_leads d uris bound deep it o l = record {
+  lawful = (o.going, record { kind = refl; depth = sym o.opened; bare = λ e. absurd (false≢true (sym e)); carried = all_attributes bound deep it.attributes; legible = l }, tt);
   left = record { going = o.going; opened = omega (arith, o.opened) };
 }
 
@@ -88,9 +88,9 @@ abbrev pub pending_count : Option PendingStart → ℕ
 pending_count None = 0
 pending_count (Some it) = 1
 
-start_leads : (d : Document) (bound : List Binding) (deep n : ℕ) (it : Option PendingStart) → IsOpen d n → n + pending_count it ≡ deep + 1 → IsLegibleStart bound deep it → Leads d (steps_of_events (start_node bound deep it)) (deep + 1)
-start_leads d bound deep n None o e l = leads_none d (deep + 1) (record { going = o.going; opened = omega (arith, o.opened, e) })
-start_leads d bound deep n (Some it) o e l = element_leads d bound deep it (record { going = o.going; opened = omega (arith, o.opened, e) }) l
+start_leads : (d : Document) (uris : List (List ℕ)) (bound : List Binding) (deep n : ℕ) (it : Option PendingStart) → IsOpen d n → n + pending_count it ≡ deep + 1 → IsLegibleStart bound deep it → Leads d (steps_of_events (start_node uris bound deep it)) (deep + 1)
+start_leads d uris bound deep n None o e l = leads_none d (deep + 1) (record { going = o.going; opened = omega (arith, o.opened, e) })
+start_leads d uris bound deep n (Some it) o e l = element_leads d uris bound deep it (record { going = o.going; opened = omega (arith, o.opened, e) }) l
 
 nil_utf8 : is_utf8 [] ≡ true
 nil_utf8 = is_utf8-from_IsUtf8 [] IsUtf8-nil
@@ -103,7 +103,7 @@ text_leads : (d : Document) (n line : ℕ) (text : List ℕ) → IsOpen d n → 
 text_leads d n line text o u = elim (cases_Bool (length text == 0)) [
   | inl e ↦ rw e (leads_none d n o)
   | inr e ↦ rw e (record {
-    lawful = (o.going, record { kind = inr (inl refl); depth = sym o.opened; bare = λ e. refl; carried = tt; legible = text_legible n text u }, tt);
+    lawful = (o.going, record { kind = refl; depth = sym o.opened; bare = λ e. refl; carried = tt; legible = text_legible n text u }, tt);
     left = record { going = o.going; opened = o.opened };
   })
 ]
@@ -113,9 +113,19 @@ instruction_legible : (n : ℕ) (target value : List ℕ) → is_ncname target �
 instruction_legible n target value c t v = rw (nil_utf8, c, t, v) refl
 
 instruction_leads : (d : Document) (n line : ℕ) (target value : List ℕ) → IsOpen d n → is_ncname target ≡ true → is_utf8 target ≡ true → is_utf8 value ≡ true
-    → Leads d (steps_of_events (event.Node (instruction_row n target value) [] [] line ∷ [])) n
+    → Leads d (steps_of_events (plain_node (instruction_row n target value) line ∷ [])) n
 instruction_leads d n line target value o c t v = record {
-  lawful = (o.going, record { kind = inr (inr refl); depth = sym o.opened; bare = λ e. refl; carried = tt; legible = instruction_legible n target value c t v }, tt);
+  lawful = (o.going, record { kind = refl; depth = sym o.opened; bare = λ e. refl; carried = tt; legible = instruction_legible n target value c t v }, tt);
+  left = record { going = o.going; opened = o.opened };
+}
+
+-- a comment's node
+comment_legible : (n : ℕ) (text : List ℕ) → is_utf8 text ≡ true → all_legible (comment_row n text ∷ []) ≡ true
+comment_legible n text u = rw (nil_utf8, u) refl
+
+comment_leads : (d : Document) (n line : ℕ) (text : List ℕ) → IsOpen d n → is_utf8 text ≡ true → Leads d (steps_of_events (plain_node (comment_row n text) line ∷ [])) n
+comment_leads d n line text o u = record {
+  lawful = (o.going, record { kind = refl; depth = sym o.opened; bare = λ e. refl; carried = tt; legible = comment_legible n text u }, tt);
   left = record { going = o.going; opened = o.opened };
 }
 
@@ -167,7 +177,7 @@ pub line_leads : (before : List Line) (line : Line) (d : Document) (n : ℕ) →
 line_leads before (Start name) d n s o e = (
   depth before + 1,
   leads_both d (completed before (pending_start before)) (ended_text before) (depth before + 1) (depth before + 1)
-      (start_leads d (bindings 0 before) (depth before) n (pending_start before) o e s.start_legible)
+      (start_leads d (uris_to before) (bindings 0 before) (depth before) n (pending_start before) o e s.start_legible)
       (λ q p. text_leads q (depth before + 1) (length before + 1) (pending_text before) p s.text),
   omega (arith, depth_start name before s.balanced),
 )
@@ -175,7 +185,7 @@ line_leads before (End name) d n s o e =
     let some = s.open_elements refl in (
       depth before,
       leads_both d (completed before (pending_start before)) (ended_text before ++ event.Shut ∷ []) (depth before + 1) (depth before)
-          (start_leads d (bindings 0 before) (depth before) n (pending_start before) o e s.start_legible)
+          (start_leads d (uris_to before) (bindings 0 before) (depth before) n (pending_start before) o e s.start_legible)
           (λ q p. leads_both q (ended_text before) (event.Shut ∷ []) (depth before + 1) (depth before)
           (text_leads q (depth before + 1) (length before + 1) (pending_text before) p s.text)
           (λ r t. shut_leads r (depth before) t some)),
@@ -186,17 +196,26 @@ line_leads before (Attr name value) d n s o e =
 line_leads before (Text text) d n s o e = (
   depth before + 1,
   leads_both d (completed before (pending_start before)) [] (depth before + 1) (depth before + 1)
-      (start_leads d (bindings 0 before) (depth before) n (pending_start before) o e s.start_legible)
+      (start_leads d (uris_to before) (bindings 0 before) (depth before) n (pending_start before) o e s.start_legible)
       (λ q p. leads_none q (depth before + 1) p),
   omega (arith, depth_other (Text text) before refl refl),
 )
 line_leads before (Instruction target value) d n s o e = (
   depth before + 1,
-  leads_both d (completed before (pending_start before)) (ended_text before ++ event.Node (instruction_row (depth before + 1) target value) [] [] (length before + 1) ∷ []) (depth before + 1) (depth before + 1)
-      (start_leads d (bindings 0 before) (depth before) n (pending_start before) o e s.start_legible)
-      (λ q p. leads_both q (ended_text before) (event.Node (instruction_row (depth before + 1) target value) [] [] (length before + 1) ∷ []) (depth before + 1) (depth before + 1)
+  leads_both d (completed before (pending_start before)) (ended_text before ++ plain_node (instruction_row (depth before + 1) target value) (length before + 1) ∷ []) (depth before + 1) (depth before + 1)
+      (start_leads d (uris_to before) (bindings 0 before) (depth before) n (pending_start before) o e s.start_legible)
+      (λ q p. leads_both q (ended_text before) (plain_node (instruction_row (depth before + 1) target value) (length before + 1) ∷ []) (depth before + 1) (depth before + 1)
       (text_leads q (depth before + 1) (length before + 1) (pending_text before) p s.text)
       (λ r t. instruction_leads r (depth before + 1) (length before + 1) target value t s.readable.0 s.readable.1 s.readable.2)),
   omega (arith, depth_other (Instruction target value) before refl refl),
+)
+line_leads before (Comment text) d n s o e = (
+  depth before + 1,
+  leads_both d (completed before (pending_start before)) (ended_text before ++ plain_node (comment_row (depth before + 1) text) (length before + 1) ∷ []) (depth before + 1) (depth before + 1)
+      (start_leads d (uris_to before) (bindings 0 before) (depth before) n (pending_start before) o e s.start_legible)
+      (λ q p. leads_both q (ended_text before) (plain_node (comment_row (depth before + 1) text) (length before + 1) ∷ []) (depth before + 1) (depth before + 1)
+      (text_leads q (depth before + 1) (length before + 1) (pending_text before) p s.text)
+      (λ r t. comment_leads r (depth before + 1) (length before + 1) text t s.readable)),
+  omega (arith, depth_other (Comment text) before refl refl),
 )
 line_leads before Passed d n s o e = (n, leads_none d n o, e ∙ ap (λ k. k + 1) (sym (depth_other Passed before refl refl)))

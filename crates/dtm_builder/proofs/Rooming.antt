@@ -12,13 +12,13 @@ use Rattle.doc_model.specs.declared.step.Step.{Step}
 use Rattle.doc_model.specs.Rows.{rows_given}
 use Rattle.xml_names.specs.declared.scopes.Binding.{Binding}
 use Rattle.pyx_lines.specs.declared.line.Line.{Line}
-use Rattle.pyx_lines.specs.declared.line.Line.TheVariants.{Start, End, Attr, Text, Instruction, Passed}
+use Rattle.pyx_lines.specs.declared.line.Line.TheVariants.{Start, End, Attr, Text, Instruction, Comment, Passed}
 use Rattle.pyx_events.specs.declared.event.Event.{Event}
 use Rattle.pyx_events.specs.declared.event.Event.TheVariants as event
 use Rattle.pyx_events.specs.declared.pending_start.Attribute.{Attribute}
 use Rattle.pyx_events.specs.declared.pending_start.PendingStart.{PendingStart}
-use Rattle.pyx_events.specs.Before.{depth, with_attribute, pending_start, pending_text, is_declaration, bindings, row_count, value_bytes}
-use Rattle.pyx_events.specs.Nodes.{element_row, declarations, attribute_row, attribute_rows, start_node, completed, text_row, instruction_row, text_node, ended_text, line_events, events_to, event_rows, node_rows}
+use Rattle.pyx_events.specs.Before.{depth, with_attribute, pending_start, pending_text, is_declaration, bindings, row_count, value_bytes, uris_to}
+use Rattle.pyx_events.specs.Nodes.{element_row, declarations, attribute_row, attribute_rows, start_node, numbers_of, plain_node, completed, text_row, instruction_row, comment_row, text_node, ended_text, line_events, events_to, event_rows, node_rows}
 use Rattle.pyx_events.specs.Flaw.{line_flaw}
 use Rattle.pyx_events.specs.Steps.{step_of, steps_of_events}
 use Rattle.dtm_builder.specs.Lines.{AreFlawless}
@@ -29,7 +29,7 @@ rows_join [] ys = refl
 rows_join (x ∷ xs) ys = ap (λ all. event_rows x ++ all) (rows_join xs ys) ∙ sym (append_assoc (event_rows x) (node_rows xs) (node_rows ys))
 
 rows_of_event : (x : Event) (more : List Step) → rows_given (step_of x ∷ more) ≡ event_rows x ++ rows_given more
-rows_of_event (event.Node row attributes declarations line) more = refl
+rows_of_event (event.Node row attributes declarations uris line) more = refl
 rows_of_event event.Shut more = refl
 
 -- the rows of the steps are the root and those of the events
@@ -45,8 +45,8 @@ module _ (w : Row → ℕ) where
   pub measure_join : (xs ys : List Event) → measure (xs ++ ys) ≡ measure xs + measure ys
   measure_join xs ys = ap (sum_by w) (rows_join xs ys) ∙ sum_by-append w (node_rows xs) (node_rows ys)
 
-  measure_node : (row : Row) (attributes : List Row) (declarations : List Binding) (line : ℕ) → measure (event.Node row attributes declarations line ∷ []) ≡ w row + sum_by w attributes
-  measure_node row attributes declarations line = ap (sum_by w) (append-nil (row ∷ attributes)) ∙ sum_by-cons w row attributes
+  measure_node : (row : Row) (attributes : List Row) (declarations : List Binding) (uris : List ℕ) (line : ℕ) → measure (event.Node row attributes declarations uris line ∷ []) ≡ w row + sum_by w attributes
+  measure_node row attributes declarations uris line = ap (sum_by w) (append-nil (row ∷ attributes)) ∙ sum_by-cons w row attributes
 
 -- what is pending, in the same measure: an element's own, and its attributes that aren't declarations
 module _ (size : List ℕ → ℕ) where
@@ -89,13 +89,13 @@ row_value row = length row.value
 abbrev pub value_size : List ℕ → ℕ
 value_size value = length value
 
-start_rows : (bound : List Binding) (deep : ℕ) (it : Option PendingStart) → measure one_row (start_node bound deep it) ≡ start_size one_value 1 it
-start_rows bound deep None = refl
-start_rows bound deep (Some it) = measure_node one_row (element_row bound deep it.name) (attribute_rows bound (deep + 1) it.attributes) (declarations it.attributes) it.line ∙ ap (λ n. 1 + n) (attributes_size one_value one_row bound (deep + 1) it.attributes (λ a. refl))
+start_rows : (uris : List (List ℕ)) (bound : List Binding) (deep : ℕ) (it : Option PendingStart) → measure one_row (start_node uris bound deep it) ≡ start_size one_value 1 it
+start_rows uris bound deep None = refl
+start_rows uris bound deep (Some it) = measure_node one_row (element_row bound deep it.name) (attribute_rows bound (deep + 1) it.attributes) (declarations it.attributes) (numbers_of uris (element_row bound deep it.name ∷ attribute_rows bound (deep + 1) it.attributes)) it.line ∙ ap (λ n. 1 + n) (attributes_size one_value one_row bound (deep + 1) it.attributes (λ a. refl))
 
-start_values : (bound : List Binding) (deep : ℕ) (it : Option PendingStart) → measure row_value (start_node bound deep it) ≡ start_size value_size 0 it
-start_values bound deep None = refl
-start_values bound deep (Some it) = measure_node row_value (element_row bound deep it.name) (attribute_rows bound (deep + 1) it.attributes) (declarations it.attributes) it.line ∙ ap (λ n. 0 + n) (attributes_size value_size row_value bound (deep + 1) it.attributes (λ a. refl))
+start_values : (uris : List (List ℕ)) (bound : List Binding) (deep : ℕ) (it : Option PendingStart) → measure row_value (start_node uris bound deep it) ≡ start_size value_size 0 it
+start_values uris bound deep None = refl
+start_values uris bound deep (Some it) = measure_node row_value (element_row bound deep it.name) (attribute_rows bound (deep + 1) it.attributes) (declarations it.attributes) (numbers_of uris (element_row bound deep it.name ∷ attribute_rows bound (deep + 1) it.attributes)) it.line ∙ ap (λ n. 0 + n) (attributes_size value_size row_value bound (deep + 1) it.attributes (λ a. refl))
 
 abbrev pub text_rows : List ℕ → ℕ
 text_rows text = cond (length text == 0) 0 1
@@ -103,13 +103,13 @@ text_rows text = cond (length text == 0) 0 1
 text_node_rows : (n line : ℕ) (text : List ℕ) → measure one_row (text_node n text line) ≡ text_rows text
 text_node_rows n line text = elim (cases_Bool (length text == 0)) [
   | inl e ↦ rw e refl
-  | inr e ↦ rw e (measure_node one_row (text_row n text) [] [] line)
+  | inr e ↦ rw e (measure_node one_row (text_row n text) [] [] (0 ∷ []) line)
 ]
 
 text_node_values : (n line : ℕ) (text : List ℕ) → measure row_value (text_node n text line) ≡ length text
 text_node_values n line text = elim (cases_Bool (length text == 0)) [
   | inl e ↦ rw e (grind (arith, nat_tests, e))
-  | inr e ↦ rw e (measure_node row_value (text_row n text) [] [] line ∙ omega arith)
+  | inr e ↦ rw e (measure_node row_value (text_row n text) [] [] (0 ∷ []) line ∙ omega arith)
 ]
 
 -- an attribute line without a flaw follows a start
@@ -140,13 +140,13 @@ rows_counted limits (Start name ∷ before) f =
     let h = rows_counted limits before f.1 in
     let all = measure_join one_row (events_to before) (line_events before (Start name)) in
     let now = measure_join one_row (completed before (pending_start before)) (ended_text before) in
-    omega (arith, h, all, now, start_rows (bindings 0 before) (depth before) (pending_start before), text_node_rows (depth before + 1) (length before + 1) (pending_text before))
+    omega (arith, h, all, now, start_rows (uris_to before) (bindings 0 before) (depth before) (pending_start before), text_node_rows (depth before + 1) (length before + 1) (pending_text before))
 rows_counted limits (End name ∷ before) f =
     let h = rows_counted limits before f.1 in
     let all = measure_join one_row (events_to before) (line_events before (End name)) in
     let now = measure_join one_row (completed before (pending_start before)) (ended_text before ++ event.Shut ∷ []) in
     let end = measure_join one_row (ended_text before) (event.Shut ∷ []) in
-    omega (arith, h, all, now, end, start_rows (bindings 0 before) (depth before) (pending_start before), text_node_rows (depth before + 1) (length before + 1) (pending_text before))
+    omega (arith, h, all, now, end, start_rows (uris_to before) (bindings 0 before) (depth before) (pending_start before), text_node_rows (depth before + 1) (length before + 1) (pending_text before))
 rows_counted limits (Attr name value ∷ before) f =
     let h = rows_counted limits before f.1 in
     let all = measure_join one_row (events_to before) [] in
@@ -156,14 +156,21 @@ rows_counted limits (Text text ∷ before) f =
     let h = rows_counted limits before f.1 in
     let all = measure_join one_row (events_to before) (line_events before (Text text)) in
     let now = measure_join one_row (completed before (pending_start before)) [] in
-    omega (arith, h, all, now, start_rows (bindings 0 before) (depth before) (pending_start before), text_more (depth before == 0) (pending_text before) text)
+    omega (arith, h, all, now, start_rows (uris_to before) (bindings 0 before) (depth before) (pending_start before), text_more (depth before == 0) (pending_text before) text)
 rows_counted limits (Instruction target value ∷ before) f =
     let h = rows_counted limits before f.1 in
-    let own = event.Node (instruction_row (depth before + 1) target value) [] [] (length before + 1) ∷ [] in
+    let own = plain_node (instruction_row (depth before + 1) target value) (length before + 1) ∷ [] in
     let all = measure_join one_row (events_to before) (line_events before (Instruction target value)) in
     let now = measure_join one_row (completed before (pending_start before)) (ended_text before ++ own) in
     let end = measure_join one_row (ended_text before) own in
-    omega (arith, h, all, now, end, start_rows (bindings 0 before) (depth before) (pending_start before), text_node_rows (depth before + 1) (length before + 1) (pending_text before))
+    omega (arith, h, all, now, end, start_rows (uris_to before) (bindings 0 before) (depth before) (pending_start before), text_node_rows (depth before + 1) (length before + 1) (pending_text before))
+rows_counted limits (Comment text ∷ before) f =
+    let h = rows_counted limits before f.1 in
+    let own = plain_node (comment_row (depth before + 1) text) (length before + 1) ∷ [] in
+    let all = measure_join one_row (events_to before) (line_events before (Comment text)) in
+    let now = measure_join one_row (completed before (pending_start before)) (ended_text before ++ own) in
+    let end = measure_join one_row (ended_text before) own in
+    omega (arith, h, all, now, end, start_rows (uris_to before) (bindings 0 before) (depth before) (pending_start before), text_node_rows (depth before + 1) (length before + 1) (pending_text before))
 rows_counted limits (Passed ∷ before) f =
     let h = rows_counted limits before f.1 in
     let all = measure_join one_row (events_to before) [] in
@@ -181,13 +188,13 @@ values_counted limits (Start name ∷ before) f =
     let h = values_counted limits before f.1 in
     let all = measure_join row_value (events_to before) (line_events before (Start name)) in
     let now = measure_join row_value (completed before (pending_start before)) (ended_text before) in
-    omega (arith, h, all, now, start_values (bindings 0 before) (depth before) (pending_start before), text_node_values (depth before + 1) (length before + 1) (pending_text before))
+    omega (arith, h, all, now, start_values (uris_to before) (bindings 0 before) (depth before) (pending_start before), text_node_values (depth before + 1) (length before + 1) (pending_text before))
 values_counted limits (End name ∷ before) f =
     let h = values_counted limits before f.1 in
     let all = measure_join row_value (events_to before) (line_events before (End name)) in
     let now = measure_join row_value (completed before (pending_start before)) (ended_text before ++ event.Shut ∷ []) in
     let end = measure_join row_value (ended_text before) (event.Shut ∷ []) in
-    omega (arith, h, all, now, end, start_values (bindings 0 before) (depth before) (pending_start before), text_node_values (depth before + 1) (length before + 1) (pending_text before))
+    omega (arith, h, all, now, end, start_values (uris_to before) (bindings 0 before) (depth before) (pending_start before), text_node_values (depth before + 1) (length before + 1) (pending_text before))
 values_counted limits (Attr name value ∷ before) f =
     let h = values_counted limits before f.1 in
     let all = measure_join row_value (events_to before) [] in
@@ -197,14 +204,21 @@ values_counted limits (Text text ∷ before) f =
     let h = values_counted limits before f.1 in
     let all = measure_join row_value (events_to before) (line_events before (Text text)) in
     let now = measure_join row_value (completed before (pending_start before)) [] in
-    omega (arith, h, all, now, start_values (bindings 0 before) (depth before) (pending_start before), value_more (depth before == 0) (pending_text before) text)
+    omega (arith, h, all, now, start_values (uris_to before) (bindings 0 before) (depth before) (pending_start before), value_more (depth before == 0) (pending_text before) text)
 values_counted limits (Instruction target value ∷ before) f =
     let h = values_counted limits before f.1 in
-    let own = event.Node (instruction_row (depth before + 1) target value) [] [] (length before + 1) ∷ [] in
+    let own = plain_node (instruction_row (depth before + 1) target value) (length before + 1) ∷ [] in
     let all = measure_join row_value (events_to before) (line_events before (Instruction target value)) in
     let now = measure_join row_value (completed before (pending_start before)) (ended_text before ++ own) in
     let end = measure_join row_value (ended_text before) own in
-    omega (arith, h, all, now, end, start_values (bindings 0 before) (depth before) (pending_start before), text_node_values (depth before + 1) (length before + 1) (pending_text before))
+    omega (arith, h, all, now, end, start_values (uris_to before) (bindings 0 before) (depth before) (pending_start before), text_node_values (depth before + 1) (length before + 1) (pending_text before))
+values_counted limits (Comment text ∷ before) f =
+    let h = values_counted limits before f.1 in
+    let own = plain_node (comment_row (depth before + 1) text) (length before + 1) ∷ [] in
+    let all = measure_join row_value (events_to before) (line_events before (Comment text)) in
+    let now = measure_join row_value (completed before (pending_start before)) (ended_text before ++ own) in
+    let end = measure_join row_value (ended_text before) own in
+    omega (arith, h, all, now, end, start_values (uris_to before) (bindings 0 before) (depth before) (pending_start before), text_node_values (depth before + 1) (length before + 1) (pending_text before))
 values_counted limits (Passed ∷ before) f =
     let h = values_counted limits before f.1 in
     let all = measure_join row_value (events_to before) [] in

@@ -13,7 +13,7 @@ use Rattle.doc_model.specs.Legible.{is_empty, is_part, is_legible, all_legible}
 use Rattle.xml_names.specs.declared.scopes.Binding.{Binding}
 use Rattle.xml_names.specs.Bindings.{xml_binding, is_fixed, uri_in, unless_empty}
 use Rattle.pyx_lines.specs.declared.line.Line.{Line}
-use Rattle.pyx_lines.specs.declared.line.Line.TheVariants.{Start, End, Attr, Text, Instruction, Passed}
+use Rattle.pyx_lines.specs.declared.line.Line.TheVariants.{Start, End, Attr, Text, Instruction, Comment, Passed}
 use Rattle.pyx_events.specs.declared.pending_start.Attribute.{Attribute}
 use Rattle.pyx_events.specs.declared.pending_start.PendingStart.{PendingStart}
 use Rattle.pyx_events.specs.Before.{depth, with_attribute, pending_start, pending_text, declared_prefix, is_declaration, binding_of, bindings}
@@ -207,6 +207,7 @@ bindings_text zero (Attr name value ∷ before) r = binding_text name value (bin
 bindings_text (suc k) (Attr name value ∷ before) r = bindings_text (suc k) before r.1
 bindings_text k (Text text ∷ before) r = bindings_text k before r.1
 bindings_text k (Instruction target value ∷ before) r = bindings_text k before r.1
+bindings_text k (Comment text ∷ before) r = bindings_text k before r.1
 bindings_text k (Passed ∷ before) r = bindings_text k before r.1
 
 -- the text that is pending
@@ -220,6 +221,7 @@ pending_utf8 (Text text ∷ before) r = elim (cases_Bool (depth before == 0)) [
   | inr e ↦ rw e (both_utf8 (pending_text before) text (pending_utf8 before r.1) r.0)
 ]
 pending_utf8 (Instruction target value ∷ before) r = nil_utf8
+pending_utf8 (Comment text ∷ before) r = nil_utf8
 pending_utf8 (Passed ∷ before) r = pending_utf8 before r.1
 
 -- the start that is pending
@@ -242,4 +244,5 @@ pending_readable (End name ∷ before) r = tt
 pending_readable (Attr name value ∷ before) r = with_attribute_readable name value (pending_start before) (pending_readable before r.1) (r.0.0, r.0.1, r.0.2)
 pending_readable (Text text ∷ before) r = tt
 pending_readable (Instruction target value ∷ before) r = tt
+pending_readable (Comment text ∷ before) r = tt
 pending_readable (Passed ∷ before) r = pending_readable before r.1

@@ -70,6 +70,7 @@ start_small (line.Attr name value ∷ before) = let less = start_small before in
     same name value (Some it) = refl
 start_small (line.Text text ∷ before) = omega arith
 start_small (line.Instruction target value ∷ before) = omega arith
+start_small (line.Comment text ∷ before) = omega arith
 start_small (line.Passed ∷ before) = let less = start_small before in omega (arith, less)
 
 completed_small : (before : List Line) (line : Line) → start_line (completed_start before line) ≤ length before

@@ -64,7 +64,7 @@ steps_more events k x old now new within is before step =
     step ∙ ap (λ all. all ++ step_of x ∷ []) before ∙ append_assoc old (steps_of_events (take k events)) (step_of x ∷ []) ∙ ap (λ all. old ++ all) (sym one)
 
 event_going : (steps : List Step) (x : Event) → (document_of steps).ended ≡ None → (document_of (steps ++ step_of x ∷ [])).ended ≡ None
-event_going steps (event.Node row attributes declarations line) h = subst (λ d. Document.ended d ≡ None) (sym (document_of-push steps (step.Node row attributes))) h
+event_going steps (event.Node row attributes declarations uris line) h = subst (λ d. Document.ended d ≡ None) (sym (document_of-push steps (step.Node row attributes))) h
 event_going steps event.Shut h = subst (λ d. Document.ended d ≡ None) (sym (document_of-push steps step.Shut)) h
 
 pub event_follows : (limits now_limits : Limits) (steps now : List Step) (left : List Step) (x : Event) → now_limits ≡ limits → now ≡ steps ++ step_of x ∷ [] → CanFollow limits steps (step_of x ∷ left) → CanFollow now_limits now left

@@ -9,10 +9,11 @@ use Rattle.doc_model.specs.declared.row.Row.{Row}
 use Rattle.doc_model.specs.declared.step.Verdict.{Verdict}
 use Rattle.doc_model.specs.declared.step.Verdict.TheVariants.{Bad, Starved}
 use Rattle.pyx_lines.specs.declared.line.Line.{Line}
-use Rattle.pyx_lines.specs.declared.line.Line.TheVariants.{Start, End, Attr, Text, Instruction, Passed}
+use Rattle.pyx_lines.specs.declared.line.Line.TheVariants.{Start, End, Attr, Text, Instruction, Comment, Passed}
 use Rattle.pyx_events.specs.declared.event.Event.{Event}
 use Rattle.pyx_events.specs.declared.event.Event.TheVariants.{Node, Shut}
-use Rattle.pyx_events.specs.Counted.{Names, kind_number}
+use Rattle.doc_model.specs.Numbers.{kind_number}
+use Rattle.pyx_events.specs.Counted.{Names}
 use Rattle.pyx_events.specs.Flaw.{names_flaw, at_line}
 use Rattle.pyx_events.specs.Nodes.{instruction_row}
 use Rattle.node_writer.specs.declared.new_names.NewNames.{NewNames}
@@ -40,13 +41,14 @@ pub record Adds (names : Names) (new : NewNames) (all : Names) : Type 0 where
   pub count : new.count ≡ capped count_added
   pub bytes : new.bytes ≡ capped bytes_added
 
--- a row with the name that the line's own node has: an instruction's target
+-- a row with the name that the line's own node has: an instruction's target; a comment has none
 abbrev pub own_rows : Line → List Row
 own_rows (Start name) = []
 own_rows (End name) = []
 own_rows (Attr name value) = []
 own_rows (Text text) = []
 own_rows (Instruction target value) = instruction_row 0 target [] ∷ []
+own_rows (Comment text) = []
 own_rows Passed = []
 
 abbrev pub is_element : Kind → Bool
@@ -55,13 +57,13 @@ is_element kind = kind_number kind == 1
 -- the rows of the element whose node stands first among the events, if one does
 abbrev pub element_rows : List Event → List Row
 element_rows [] = []
-element_rows (Node row attributes declarations line ∷ events) = if is_element row.kind then row ∷ attributes else []
+element_rows (Node row attributes declarations uris line ∷ events) = if is_element row.kind then row ∷ attributes else []
 element_rows (Shut ∷ events) = []
 
 -- a flaw of this kind at the line of that element
 abbrev pub element_flaw : List Event → Option FlawKind → Option Flaw
 element_flaw [] kind = None
-element_flaw (Node row attributes declarations line ∷ events) kind = if is_element row.kind then at_line line kind None else None
+element_flaw (Node row attributes declarations uris line ∷ events) kind = if is_element row.kind then at_line line kind None else None
 element_flaw (Shut ∷ events) kind = None
 
 -- the flaw of the names of that element after a table with these rows, where the values have so many bytes

@@ -1,12 +1,12 @@
 -- The lines that a builder takes. The lines before are given with the latest first.
-use Rattle.std.specs.Prelude.{◌≡◌, ℕ, List, [], ◌∷◌, false, None, is_none, if◌then◌else◌, ⊤, Result, Ok, map, reverse, length}
+use Rattle.std.specs.Prelude.{ℕ, List, [], ◌∷◌, false, is_none, if◌then◌else◌, ⊤, length}
 use Rattle.doc_model.specs.declared.limits.Limits.{Limits}
 use Rattle.doc_model.specs.declared.step.Step.{Step}
 use Rattle.pyx_lines.specs.declared.line.Line.{Line}
-use Rattle.pyx_lines.specs.declared.line.Line.TheVariants.{Start, End, Attr, Text, Instruction, Passed}
-use Rattle.pyx_lines.specs.Lines.{Refusal}
+use Rattle.pyx_lines.specs.declared.line.Line.TheVariants.{Start, End, Attr, Text, Instruction, Comment, Passed}
 use Rattle.pyx_lines.specs.Writing.{CanBeWritten}
 use Rattle.pyx_events.specs.Flaw.{line_flaw}
+use Rattle.pyx_events.specs.Judged as judged
 use Rattle.pyx_events.specs.Nodes.{line_events}
 use Rattle.pyx_events.specs.Steps.{steps_of_events}
 
@@ -17,6 +17,7 @@ IsReadable (End name) = CanBeWritten (End name)
 IsReadable (Attr name value) = CanBeWritten (Attr name value)
 IsReadable (Text text) = CanBeWritten (Text text)
 IsReadable (Instruction target value) = CanBeWritten (Instruction target value)
+IsReadable (Comment text) = CanBeWritten (Comment text)
 IsReadable Passed = ⊤
 
 abbrev pub AreReadable : List Line → Type 0
@@ -25,16 +26,11 @@ AreReadable (line ∷ before) = IsReadable line × AreReadable before
 
 -- none of these lines has a flaw after those before it, names and their bytes counted
 abbrev pub AreFlawless : Limits → List Line → Type 0
-AreFlawless limits [] = ⊤
-AreFlawless limits (line ∷ before) = (line_flaw limits false before line ≡ None) × AreFlawless limits before
+AreFlawless limits before = judged.AreFlawless limits false before
 
 -- the steps of a line: none where a flaw is judged at it
 abbrev pub line_steps : Limits → List Line → Line → List Step
 line_steps limits before line = if is_none (line_flaw limits false before line) then steps_of_events (line_events before line) else []
-
--- the lines in the order of their source, in which none of them is refused
-abbrev pub in_source : List Line → List (Result Line Refusal)
-in_source before = map (λ line. Ok line) (reverse before)
 
 -- the bytes of a text line's data
 abbrev pub data_length : Line → ℕ
@@ -43,4 +39,5 @@ data_length (End name) = 0
 data_length (Attr name value) = 0
 data_length (Text text) = length text
 data_length (Instruction target value) = 0
+data_length (Comment text) = 0
 data_length Passed = 0

@@ -31,7 +31,7 @@ pub(crate) fn own_names(writer: &NodeWriter, line: &Line) -> NewNames
             }
         }
         Line::Start(_) | Line::End(_) | Line::Text(_) => none,
-        Line::Attr { .. } | Line::Passed => none,
+        Line::Attr { .. } | Line::Comment(_) | Line::Passed => none,
     }
 }
 
@@ -55,6 +55,7 @@ pub(crate) fn judge_element(
                 row,
                 attributes,
                 declarations: _,
+                uris: _,
                 line,
             },
         ) => {
@@ -104,7 +105,7 @@ pub(crate) fn data_length(line: &Line) -> u64
     match line {
         Line::Text(text) => text.len() as u64,
         Line::Start(_) | Line::End(_) | Line::Passed => 0,
-        Line::Attr { .. } | Line::Instruction { .. } => 0,
+        Line::Attr { .. } | Line::Instruction { .. } | Line::Comment(_) => 0,
     }
 }
 

@@ -6,7 +6,8 @@ ghost use Rattle.pyx_lines.specs.Spelling.{line_of};
 ghost use Rattle.pyx_events.specs.Flaw.{flaw_from};
 ghost use Rattle.pyx_events.specs.Nodes.{events_to};
 ghost use Rattle.pyx_events.specs.Steps.{steps_of_events, steps_through, steps_from};
-ghost use Rattle.dtm_builder.specs.Lines.{IsReadable, AreFlawless, in_source};
+ghost use Rattle.pyx_events.specs.Judged.{in_source};
+ghost use Rattle.dtm_builder.specs.Lines.{IsReadable, AreFlawless};
 
 /// What a source begins with, if these lines are its first and none of them has a flaw: its first flaw
 /// and the rest of its steps are judged of the lines after them.

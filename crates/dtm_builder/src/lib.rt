@@ -11,6 +11,3 @@ mod steps;
 pub use build_error::BuildError;
 pub use builder::Builder;
 pub use laws::{flawless_lines_begin_a_source, what_is_read_is_readable};
-
-#[cfg(test)]
-mod tests;

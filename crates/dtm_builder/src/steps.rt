@@ -54,6 +54,7 @@ fn write_event<C: GrowCells>(
             row,
             attributes,
             declarations: _,
+            uris: _,
             line: _,
         } => writer.node(alloc, c, row, attributes.as_slice()),
         Event::Shut => {

@@ -4,19 +4,21 @@ use Rattle.std.specs.Prelude.{slice_get, IfSome, IfNone}
 use Rattle.std.specs.Option.{option_map}
 use Rattle.std.proofs.lemmas.Option.{slice_get_within, slice_get-get_or, get_or_from_slice_get, slice_get-map, same_Some, none-some}
 use Rattle.doc_model.specs.declared.row.Kind.{Kind}
-use Rattle.doc_model.specs.declared.row.Kind.TheVariants.{Root, Element, Attribute, Text, Instruction}
+use Rattle.doc_model.specs.declared.row.Kind.TheVariants.{Root, Element, Attribute, Text, Instruction, Comment}
+use Rattle.doc_model.specs.Numbers.{kind_number}
 use Rattle.name_pool.specs.Names.{Name, Pool, IsTypeNumber}
 use Rattle.name_pool.specs.Numbers.{IsNew, Keeps, NoRepeats}
-use Rattle.name_pool.specs.Holds.{kind_rank, kind_of, name_of, Spells, IsKey}
+use Rattle.name_pool.specs.Holds.{kind_of, name_of, Spells, IsKey}
 use Rattle.name_pool.specs.declared.type_numbers.TypeKey.{TypeKey}
 use Rattle.name_pool.proofs.Numbering.{pushed}
 
-pub of_rank : (kind : Kind) → kind_of (kind_rank kind) ≡ kind
-of_rank Root = refl
-of_rank Element = refl
-of_rank Attribute = refl
-of_rank Text = refl
-of_rank Instruction = refl
+pub of_number : (kind : Kind) → kind_of (kind_number kind) ≡ kind
+of_number Root = refl
+of_number Element = refl
+of_number Attribute = refl
+of_number Text = refl
+of_number Instruction = refl
+of_number Comment = refl
 
 abbrev pub AllSpell : List (List ℕ) → List TypeKey → Type 0
 AllSpell texts keys = (k : ℕ) (key : TypeKey) → slice_get keys k ≡ Some key → Spells texts key
@@ -24,15 +26,15 @@ AllSpell texts keys = (k : ℕ) (key : TypeKey) → slice_get keys k ≡ Some ke
 module _ (texts : List (List ℕ)) where
   -- the key of a kind and the numbers of two texts
   pub key_spells : (kind : Kind) (uri local : List ℕ) (u l : ℕ) → slice_get texts u ≡ Some uri → slice_get texts l ≡ Some local
-      → IsKey texts (record { kind = kind_rank kind; uri = u; local = l }) (record { kind = kind; uri = uri; local = local })
+      → IsKey texts (record { kind = kind_number kind; uri = u; local = l }) (record { kind = kind; uri = uri; local = local })
   key_spells kind uri local u l e f = (
-    record { kind = ap kind_rank (of_rank kind); uri = slice_get_within texts u uri e; local = slice_get_within texts l local f },
-    λ i. record { kind = of_rank kind i; uri = get_or_from_slice_get texts u uri [] e i; local = get_or_from_slice_get texts l local [] f i },
+    record { kind = ap kind_number (of_number kind); uri = slice_get_within texts u uri e; local = slice_get_within texts l local f },
+    λ i. record { kind = of_number kind i; uri = get_or_from_slice_get texts u uri [] e i; local = get_or_from_slice_get texts l local [] f i },
   )
 
   module _ (key : TypeKey) (name : Name) (is : IsKey texts key name) where
-    pub its_kind : key.kind ≡ kind_rank name.kind
-    its_kind = sym is.0.kind ∙ ap (λ (n : Name). kind_rank n.kind) is.1
+    pub its_kind : key.kind ≡ kind_number name.kind
+    its_kind = sym is.0.kind ∙ ap (λ (n : Name). kind_number n.kind) is.1
 
     pub its_uri : slice_get texts key.uri ≡ Some name.uri
     its_uri = slice_get-get_or texts key.uri [] is.0.uri ∙ ap (λ (n : Name). Some n.uri) is.1

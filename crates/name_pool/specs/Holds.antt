@@ -1,25 +1,21 @@
 -- The pool that the fields of a `NamePool` stand for, and what holds of them.
 use Rattle.std.specs.Prelude.{◌≡◌, ℕ, zero, suc, ◌+◌, ◌<◌, ◌≤◌, List, [], ◌∷◌, length, map, get_or, Some, slice_get}
 use Rattle.doc_model.specs.declared.row.Kind.{Kind}
-use Rattle.doc_model.specs.declared.row.Kind.TheVariants.{Root, Element, Attribute, Text, Instruction}
+use Rattle.doc_model.specs.declared.row.Kind.TheVariants.{Root, Element, Attribute, Text, Instruction, Comment}
+use Rattle.doc_model.specs.Numbers.{kind_number}
 use Rattle.name_pool.specs.Names.{Name, Pool}
 use Rattle.name_pool.specs.Numbers.{NoRepeats}
 use Rattle.name_pool.specs.declared.name_pool.NamePool.TheInside.{Inside}
 use Rattle.name_pool.specs.declared.type_numbers.TypeKey.{TypeKey}
 
-abbrev pub kind_rank : Kind → ℕ
-kind_rank Root = 0
-kind_rank Element = 1
-kind_rank Attribute = 2
-kind_rank Text = 3
-kind_rank Instruction = 4
-
+-- the kind that has a number
 abbrev pub kind_of : ℕ → Kind
 kind_of zero = Root
 kind_of (suc zero) = Element
 kind_of (suc (suc zero)) = Attribute
 kind_of (suc (suc (suc zero))) = Text
-kind_of (suc (suc (suc (suc _)))) = Instruction
+kind_of (suc (suc (suc (suc zero)))) = Instruction
+kind_of (suc (suc (suc (suc (suc _))))) = Comment
 
 -- the name that a key stands for
 abbrev pub name_of : List (List ℕ) → TypeKey → Name
@@ -27,7 +23,7 @@ name_of texts key = record { kind = kind_of key.kind; uri = get_or texts key.uri
 
 -- the key names a kind and texts that are there
 pub record Spells (texts : List (List ℕ)) (key : TypeKey) : Type 0 where
-  pub kind : kind_rank (kind_of key.kind) ≡ key.kind
+  pub kind : kind_number (kind_of key.kind) ≡ key.kind
   pub uri : key.uri < length texts
   pub local : key.local < length texts
 

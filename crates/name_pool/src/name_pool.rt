@@ -1,7 +1,7 @@
 ghost use Rattle.std.specs.Prelude.{ℕ, ◌≡◌, ◌↔◌, ◌+◌, ◌<◌, ◌≤◌, ◌∷◌, [], Err, Some, List, length, IsTrue, IfNone, IfOk, OnOk, OnErr};
 ghost use Rattle.name_pool.specs.Names.{Name, Pool, added, IsTypeNumber, IsPrefixNumber, NumbersName, NumbersPrefix, with_name, with_prefix};
 ghost use Rattle.name_pool.specs.Numbers.{IsNew, Keeps};
-ghost use Rattle.name_pool.specs.Holds.{kind_rank, IsKey};
+ghost use Rattle.name_pool.specs.Holds.{IsKey};
 ghost use Rattle.name_pool.specs.declared.type_numbers.TypeKey.{TypeKey};
 ghost use Rattle.name_pool.specs.declared.pool_error.PoolError.TheVariants.{Full};
 
@@ -12,7 +12,7 @@ use doc_model::Kind;
 use std::alloc::{AllocError, Global};
 use std::marker::Model;
 
-/// The number of the first name that is added: 0 is the root's, 1 that of texts, 2 is kept for comments.
+/// The number of the first name that is added: 0 is the root's, 1 that of texts, 2 that of comments.
 const FIRST_TYPE: u32 = 3;
 
 /// Numbers of expanded names (XML Namespaces, section 2.1) and of prefixes, in the order of their first
@@ -182,7 +182,7 @@ fn find_key(texts: &TextNumbers, kind: Kind, uri: &[u8], local: &[u8]) -> Option
 {
     let uri = texts.find(uri)?;
     let local = texts.find(local)?;
-    let kind = rank(kind);
+    let kind = kind.number();
     Some(TypeKey { kind, uri, local })
 }
 
@@ -199,18 +199,6 @@ fn add_key(
 {
     let uri = texts.number(alloc, uri)?;
     let local = texts.number(alloc, local)?;
-    let kind = rank(kind);
+    let kind = kind.number();
     Ok(TypeKey { kind, uri, local })
-}
-
-fn rank(kind: Kind) -> u8
-    ensures { result ≡ kind_rank kind }
-{
-    match kind {
-        Kind::Root => 0,
-        Kind::Element => 1,
-        Kind::Attribute => 2,
-        Kind::Text => 3,
-        Kind::Instruction => 4,
-    }
 }

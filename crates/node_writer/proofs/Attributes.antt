@@ -1,12 +1,13 @@
 -- The attributes of an element, one after the other.
-use Rattle.std.proofs.Common.{◌≡◌, ℕ, suc, ◌+◌, ◌<◌, List, [], ◌∷◌, ◌++◌, length, Some, None, take, drop, get_or, refl, ap, sym, ◌∙◌, subst, arith, add-one, length-append}
+use Rattle.std.proofs.Common.{◌≡◌, ℕ, true, suc, ◌+◌, ◌<◌, List, [], ◌∷◌, ◌++◌, length, Some, None, take, drop, get_or, refl, ap, sym, ◌∙◌, subst, arith, add-one, length-append}
 use Rattle.std.proofs.Math.Seq.{take-suc}
+use Rattle.std.proofs.lemmas.Bool.{false≢true}
 use Rattle.std.proofs.lemmas.List.{get_or_append_left, take-append-drop}
 use Rattle.std.proofs.lemmas.Option.{slice_get-get_or}
 use Rattle.doc_model.specs.declared.limits.Limits.{Limits}
 use Rattle.doc_model.specs.declared.places.RowPlace.{RowPlace}
 use Rattle.doc_model.specs.declared.row.Kind.{Kind}
-use Rattle.doc_model.specs.declared.row.Kind.TheVariants.{Root, Attribute, Text}
+use Rattle.doc_model.specs.declared.row.Kind.TheVariants.{Root, Attribute}
 use Rattle.doc_model.specs.declared.row.Row.{Row}
 use Rattle.doc_model.specs.Cells.{Columns, place_at, root_place}
 use Rattle.doc_model.specs.Lawful.{AllAttributes}
@@ -15,6 +16,7 @@ use Rattle.doc_laws.proofs.Stack.{attribute_depths}
 use Rattle.node_writer.specs.declared.filler.Filler.{Filler}
 use Rattle.node_writer.specs.declared.filler.Links.{Links}
 use Rattle.node_writer.specs.Filler.{FillerStands, IsGiven, LinksFit, RowsFit, RowsFilled}
+use Rattle.node_writer.specs.Taken.{has_name}
 use Rattle.node_writer.proofs.Filling.{more_filled, next_fits}
 
 some_row : (a b : Row) → Some a ≡ Some b → a ≡ b
@@ -40,7 +42,8 @@ module _ (f g : Filler) (limits : Limits) (b c : Columns) (xs : List Row) (i n :
   item_given d a =
       let at = attribute_depths d xs i a within in
       let kind : x.kind ≡ Attribute = ap (λ (r : Row). r.kind) (sym (same_item xs i x within item)) ∙ at.0 in
-      record { kind = no_attribute x.kind Root kind (λ e. cc); uri = λ e. absurd (no_attribute x.kind Text kind (λ q. cc) e); local = λ e. absurd (no_attribute x.kind Text kind (λ q. cc) e) }
+      let named : has_name x.kind ≡ true = ap has_name kind in
+      record { kind = no_attribute x.kind Root kind (λ e. cc); uri = λ e. absurd (false≢true (sym e ∙ named)); local = λ e. absurd (false≢true (sym e ∙ named)) }
 
   pub item_fits : FillerStands f limits b → RowsFit f limits xs → RowsFilled f g limits b c (take i xs) (attribute_links n) → RowsFit g limits (x ∷ [])
   item_fits s fits r = next_fits f g limits b c (take i xs) (x ∷ []) (drop (i + 1) xs) (attribute_links n) s (subst (λ ys. RowsFit f limits ys) (split_item xs i x within item) fits) r

@@ -4,13 +4,14 @@ use Rattle.std.proofs.lemmas.List.Sums.{sum_by-cons, sum_by-append}
 use Rattle.doc_model.specs.declared.limits.Limits.{Limits}
 use Rattle.doc_model.specs.declared.places.RowPlace.{RowPlace}
 use Rattle.doc_model.specs.declared.row.Row.{Row}
-use Rattle.doc_model.specs.Cells.{Columns, Cells, name_at, prefix_at, slice_of, with_text, with_row}
+use Rattle.doc_model.specs.Cells.{Columns, Cells, name_at, prefix_at, slice_of, text_place, padded, with_text, with_row}
 use Rattle.name_pool.specs.Names.{Name}
 use Rattle.node_writer.specs.declared.filler.Filler.{Filler}
 use Rattle.node_writer.specs.declared.filler.Links.{Links}
 use Rattle.node_writer.specs.Filled.{SpellsName, SpellsPrefix, SpellsRow, IsFuller, FillsTexts}
 use Rattle.node_writer.specs.Filler.{FillerStands, IsTypeOf, PrefixFilled, IsPrefixOf, TypeFilled, RowsFit, RowsFilled, AllSpell, AreLinked}
 use Rattle.node_writer.specs.Taken.{name_of_row, name_bytes, prefix_bytes, value_bytes, names_from, prefixes_from}
+use Rattle.node_writer.proofs.Places.{place_near, padded-length, placed-length, placed_grows}
 use Rattle.node_writer.proofs.Grown.{fuller_on, names_grow, name_same, spells_name_still, spells_prefix_still, spells_row_still, slice_end}
 use Rattle.node_writer.proofs.Names.{names_still, prefixes_still}
 use Rattle.node_writer.proofs.Taken.{names_from-append, prefixes_from-append, names_from_more, prefixes_from_more}
@@ -31,32 +32,33 @@ place_next row links type prefix at = record { kind = row.kind; type_id = type; 
 module _ (limits : Limits) (row : Row) (links : Links) (f f1 f2 f3 : Filler) (c0 c1 c2 c3 c4 : Cells) (type prefix at : ℕ) where
   pub row_filled : TypeFilled f f1 limits c1.columns row → IsTypeOf c1.columns type (name_of_row row) → FillsTexts c0 c1
       → PrefixFilled f1 f2 limits c2.columns row.prefix → IsPrefixOf c2.columns prefix row.prefix → FillsTexts c1 c2
-      → at ≡ f2.text → f3 ≡ record f2 { text = f2.text + length row.value } → c3 ≡ with_text c2 row.value → c4 ≡ with_row c3 (place_next row links type prefix at)
+      → at ≡ text_place f2.at → f3 ≡ record f2 { text = f2.text + length row.value; at = text_place f2.at + length row.value } → c3 ≡ with_text c2 row.value → c4 ≡ with_row c3 (place_next row links type prefix at)
       → RowsFilled f (record f3 { rows = f3.rows + 1 }) limits c0.columns c4.columns (row ∷ []) links
   row_filled t tn tf p pn pf ae fe ce re =
       let place : RowPlace = place_next row links type prefix at in
       let d1 : Columns = c1.columns in
       let d2 : Columns = c2.columns in
-      let d4 : Columns = record { texts = d2.texts ++ row.value; names = d2.names; prefixes = d2.prefixes; places = d2.places ++ place ∷ [] } in
+      let d4 : Columns = record { texts = padded d2.texts ++ row.value; names = d2.names; prefixes = d2.prefixes; places = d2.places ++ place ∷ [] } in
       let de : c4.columns ≡ d4 = ap (λ (x : Cells). x.columns) re ∙ ap (λ (x : Cells). (with_row x place).columns) ce in
-      let g : Filler = record { pool = f2.pool; text = f2.text + length row.value; rows = f2.rows + 1; types = f2.types; prefixes = f2.prefixes } in
+      let g : Filler = record { pool = f2.pool; text = f2.text + length row.value; at = text_place f2.at + length row.value; rows = f2.rows + 1; types = f2.types; prefixes = f2.prefixes } in
       let ge : (let r : Filler = record f3 { rows = f3.rows + 1 } in r) ≡ g = ap (λ (x : Filler). let r : Filler = record x { rows = x.rows + 1 } in r) fe in
-      let full24 : IsFuller d2 d4 = record { texts = (row.value, refl); names = ([], sym (append-nil _)); prefixes = ([], sym (append-nil _)) } in
+      let full24 : IsFuller d2 d4 = record { texts = (_, placed_grows d2.texts row.value); names = ([], sym (append-nil _)); prefixes = ([], sym (append-nil _)) } in
       let full14 = fuller_on d1 d2 d4 pf.fuller full24 in
       let full04 = fuller_on c0.columns d1 d4 tf.fuller full14 in
-      let len : length d4.texts ≡ length d2.texts + length row.value = length-append d2.texts row.value in
+      let len : length d4.texts ≡ text_place (length d2.texts) + length row.value = placed-length d2.texts row.value in
+      let here : at ≡ text_place (length d2.texts) = ae ∙ ap text_place p.stands.at in
       let count : length d4.places ≡ length d2.places + 1 = length-append d2.places (place ∷ []) in
       let ps : d2.places ≡ c0.columns.places = pf.places ∙ tf.places in
       let spelled_name : SpellsName d4 (name_at d1 type) (name_of_row row) = spells_name_still d1 d4 full14 (name_at d1 type) (name_of_row row) tn.spells in
       let name : SpellsName d4 (name_at d4 type) (name_of_row row) = subst (λ q. SpellsName d4 q (name_of_row row)) (sym (name_same d1 d4 full14 type tn.within)) spelled_name in
       let spelled_prefix : SpellsPrefix d4 (prefix_at d2 prefix) row.prefix = spells_prefix_still d2 d4 full24 (prefix_at d2 prefix) row.prefix pn.spells in
-      let value : slice_of d4.texts at (length row.value) ≡ row.value = slice_end d2.texts row.value at (length row.value) (ae ∙ p.stands.text) refl in
+      let value : slice_of d4.texts at (length row.value) ≡ row.value = slice_end (padded d2.texts) row.value at (length row.value) (here ∙ sym (padded-length d2.texts)) refl in
       let spells : SpellsRow d4 place row = record {
         type = omega (arith, tn.within, names_grow d1 d4 full14);
         prefix = pn.within;
         name_fits = name.fits;
         prefix_fits = spelled_prefix.fits;
-        text_fits = omega (arith, ae, p.stands.text, len);
+        text_fits = omega (arith, here, len);
         spelled = row_parts row _ _ _ _ spelled_prefix.text name.uri name.local value;
       } in
       let nb : name_bytes f2.pool.names ≡ name_bytes f1.pool.names = ap name_bytes p.names in
@@ -64,7 +66,8 @@ module _ (limits : Limits) (row : Row) (links : Links) (f f1 f2 f3 : Filler) (c0
       let vb : value_bytes (row ∷ []) ≡ length row.value = sum_by-cons (λ (r : Row). length r.value) row [] ∙ omega arith in
       let done : RowsFilled f g limits c0.columns d4 (row ∷ []) links = record {
         stands = record {
-          text = omega (arith, p.stands.text, len);
+          at = ap (λ n. text_place n + length row.value) p.stands.at ∙ sym len;
+          gaps = omega (arith, p.stands.gaps, place_near f2.at);
           rows = omega (arith, p.stands.rows, count);
           types = p.stands.types;
           prefix_numbers = p.stands.prefix_numbers;

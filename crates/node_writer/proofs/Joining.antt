@@ -1,18 +1,18 @@
 -- The writer and the table at a Node.
-use Rattle.std.proofs.Common.{◌≡◌, ◌≢◌, ℕ, suc, ◌+◌, ◌-◌, ◌<◌, ◌≤◌, ◌^◌, true, ◌&&◌, List, [], ◌∷◌, ◌++◌, length, Option, Some, None, IfSome, take, drop, map, get_or, refl, ap, ap₂, sym, ◌∙◌, subst, arith, append_assoc, append-nil, length-append, inl, inr}
-use Rattle.std.proofs.lemmas.Bool.{and_parts}
+use Rattle.std.proofs.Common.{◌≡◌, ◌≢◌, ℕ, suc, ◌+◌, ◌-◌, ◌<◌, ◌≤◌, ◌^◌, true, false, ◌&&◌, List, [], ◌∷◌, ◌++◌, length, Option, Some, None, IfSome, take, drop, map, get_or, refl, ap, ap₂, sym, ◌∙◌, subst, arith, append_assoc, append-nil, length-append}
+use Rattle.std.proofs.lemmas.Bool.{and_parts, false≢true}
 use Rattle.std.proofs.lemmas.List.{get_or_at, drop_at, take_all}
 use Rattle.std.proofs.lemmas.List.Sums.{sum_by-append}
 use Rattle.doc_model.specs.declared.limits.Limits.{Limits}
 use Rattle.doc_model.specs.declared.places.Join.{Join}
 use Rattle.doc_model.specs.declared.places.RowPlace.{RowPlace}
 use Rattle.doc_model.specs.declared.row.Kind.{Kind}
-use Rattle.doc_model.specs.declared.row.Kind.TheVariants.{Root, Element, Attribute, Text, Instruction}
+use Rattle.doc_model.specs.declared.row.Kind.TheVariants.{Root, Element, Attribute, Text, Instruction, Comment}
 use Rattle.doc_model.specs.declared.row.Row.{Row}
 use Rattle.doc_model.specs.declared.step.Step.TheVariants.{Node}
 use Rattle.doc_model.specs.Cells.{Columns, Cells, place_at, row_of, node_at, attributes_at, root_place}
 use Rattle.doc_model.specs.Document.{Document, document_of, is_parent}
-use Rattle.doc_model.specs.Lawful.{CanStep, CanJoin, AllAttributes}
+use Rattle.doc_model.specs.Lawful.{CanStep, CanJoin, AllAttributes, may_stand}
 use Rattle.doc_model.specs.Legal.{JoinFits, IsInnermost, AreOf, how_of}
 use Rattle.doc_model.specs.Legible.{is_empty, is_named_as}
 use Rattle.doc_model.specs.Relations.{children_of, last_of}
@@ -29,7 +29,7 @@ use Rattle.node_writer.specs.Filled.{SpellsRow}
 use Rattle.node_writer.specs.Filler.{IsGiven, LinksFit, RowsFit, RowsFilled, IsLinked, AreLinked, AllSpell}
 use Rattle.node_writer.specs.Stack.{innermost, with_joined}
 use Rattle.node_writer.specs.Stands.{Stands, StackStands}
-use Rattle.node_writer.specs.Taken.{names_of, names_from, prefixes_of, prefixes_from, name_bytes, prefix_bytes, value_bytes, text_bytes, HasRoom}
+use Rattle.node_writer.specs.Taken.{has_name, names_of, names_from, prefixes_of, prefixes_from, name_bytes, prefix_bytes, value_bytes, text_bytes, HasRoom}
 use Rattle.node_writer.proofs.Attributes.{attribute_links}
 use Rattle.node_writer.proofs.Filling.{none_filled, next_fits, spells_count}
 use Rattle.node_writer.proofs.Grown.{spells_row_still}
@@ -41,32 +41,39 @@ empty_is : (bytes : List ℕ) → is_empty bytes ≡ true → bytes ≡ []
 empty_is [] h = refl
 empty_is (byte ∷ bytes) h = absurd cc
 
+-- a row without a name has no URI and no local name
+nameless : (kind : Kind) (row : Row) → may_stand kind ≡ true → has_name kind ≡ false → is_named_as kind row ≡ true → (is_empty row.uri && is_empty row.local) ≡ true
+nameless Root row m h n = absurd (false≢true m)
+nameless Element row m h n = absurd (false≢true (sym h))
+nameless Attribute row m h n = absurd (false≢true m)
+nameless Text row m h n = (and_parts _ _ n).1
+nameless Instruction row m h n = absurd (false≢true (sym h))
+nameless Comment row m h n = (and_parts _ _ n).1
+
 -- a row that may be joined is one that a source can give
 row_given : (opened : List ℕ) (row : Row) (attributes : List Row) → CanJoin opened row attributes → IsGiven row
 row_given opened row attributes j =
     let named : is_named_as row.kind row ≡ true = (and_parts _ _ ((and_parts _ _ j.legible).0)).0 in
-    let text : row.kind ≡ Text → (is_empty row.prefix && (is_empty row.uri && is_empty row.local)) ≡ true = λ e. ap (λ k. is_named_as k row) (sym e) ∙ named in
     record {
-      kind = λ e. elim j.kind [ inl k ↦ no_root Element (λ q. cc) (sym k ∙ e) | inr t ↦ elim t [ inl k ↦ no_root Text (λ q. cc) (sym k ∙ e) | inr k ↦ no_root Instruction (λ q. cc) (sym k ∙ e) ] ];
-      uri = λ e. empty_is row.uri ((and_parts _ _ ((and_parts _ _ (text e)).1)).0);
-      local = λ e. empty_is row.local ((and_parts _ _ ((and_parts _ _ (text e)).1)).1);
+      kind = λ e. false≢true (sym (ap may_stand e) ∙ j.kind);
+      uri = λ e. empty_is row.uri (and_parts _ _ (nameless row.kind row j.kind e named)).0;
+      local = λ e. empty_is row.local (and_parts _ _ (nameless row.kind row j.kind e named)).1;
     }
-  where
-    no_root : (kind : Kind) → (kind ≡ Root → ⊥) → kind ≡ Root → ⊥
-    no_root kind h e = h e
 
 no_attribute : (row : Row) (attributes : List Row) (opened : List ℕ) → CanJoin opened row attributes → row.kind ≡ Attribute → ⊥
-no_attribute row attributes opened j e = elim j.kind [ inl k ↦ apart Element (λ q. cc) (sym k ∙ e) | inr t ↦ elim t [ inl k ↦ apart Text (λ q. cc) (sym k ∙ e) | inr k ↦ apart Instruction (λ q. cc) (sym k ∙ e) ] ]
-  where
-    apart : (kind : Kind) → (kind ≡ Attribute → ⊥) → kind ≡ Attribute → ⊥
-    apart kind h e = h e
+no_attribute row attributes opened j e = false≢true (sym (ap may_stand e) ∙ j.kind)
+
+childless : (kind : Kind) → may_stand kind ≡ true → kind ≢ Element → is_parent kind ≡ false
+childless Root m ne = absurd (false≢true m)
+childless Element m ne = absurd (ne refl)
+childless Attribute m ne = refl
+childless Text m ne = refl
+childless Instruction m ne = refl
+childless Comment m ne = refl
 
 -- only an element has attributes
 bare_count : (row : Row) (attributes : List Row) (opened : List ℕ) → CanJoin opened row attributes → row.kind ≢ Element → length attributes ≡ 0
-bare_count row attributes opened j ne = elim j.kind [
-  | inl k ↦ absurd (ne k)
-  | inr t ↦ elim t [ inl k ↦ ap length (j.bare (ap is_parent k)) | inr k ↦ ap length (j.bare (ap is_parent k)) ]
-]
+bare_count row attributes opened j ne = ap length (j.bare (childless row.kind j.kind ne))
 
 child_within : (rows : List Row) (o : ℕ) (last : Option ℕ) (n : ℕ) → last ≡ last_of (children_of rows o) → length rows ≤ n → IfSome last (λ k. k < n)
 child_within rows o None n e l = tt

@@ -1,4 +1,5 @@
 pub mod Taken
+pub mod Places
 pub mod Grown
 pub mod Names
 pub mod Numbering
@@ -7,5 +8,4 @@ pub mod Attributes
 pub mod Stacks
 pub mod Shutting
 pub mod Joining
-pub mod Cases
 pub mod Adding

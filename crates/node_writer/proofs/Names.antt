@@ -9,12 +9,14 @@ use Rattle.std.proofs.lemmas.Slice.Eq.{bytes_eq-Decides}
 use Rattle.doc_model.specs.declared.places.NamePlace.{NamePlace}
 use Rattle.doc_model.specs.declared.places.PrefixPlace.{PrefixPlace}
 use Rattle.doc_model.specs.declared.row.Kind.{Kind}
-use Rattle.doc_model.specs.declared.row.Kind.TheVariants.{Root, Element, Attribute, Text, Instruction}
-use Rattle.doc_model.specs.Cells.{Columns, name_at, prefix_at, slice_of, no_name, no_prefix}
+use Rattle.doc_model.specs.declared.row.Kind.TheVariants.{Root, Element, Attribute, Text, Instruction, Comment}
+use Rattle.doc_model.specs.Cells.{Columns, name_at, prefix_at, slice_of, no_name, no_prefix, text_place, padded}
 use Rattle.doc_model.specs.Legal.{IsFresh}
+use Rattle.doc_model.specs.Numbers.{kind_number}
 use Rattle.name_pool.specs.Names.{Name}
-use Rattle.node_writer.specs.Filled.{SpellsName, SpellsPrefix, NamesStand, PrefixesStand, IsFuller, name_next}
-use Rattle.node_writer.specs.Taken.{kind_number, is_same, is_name_of, is_prefix_of, has_name}
+use Rattle.node_writer.specs.Filled.{SpellsName, SpellsPrefix, NamesStand, PrefixesStand, IsFuller, name_next, name_texts}
+use Rattle.node_writer.specs.Taken.{is_same, is_name_of, is_prefix_of, has_name}
+use Rattle.node_writer.proofs.Places.{gap_of, place_behind, padded-length, placed-length, placed_grows, name_texts-length}
 use Rattle.node_writer.proofs.Grown.{name_same, prefix_same, spells_name_still, spells_prefix_still, slice_at, slice_end}
 
 kind_at : ℕ → Kind
@@ -22,7 +24,8 @@ kind_at zero = Root
 kind_at (suc zero) = Element
 kind_at (suc (suc zero)) = Attribute
 kind_at (suc (suc (suc zero))) = Text
-kind_at (suc (suc (suc (suc n)))) = Instruction
+kind_at (suc (suc (suc (suc zero)))) = Instruction
+kind_at (suc (suc (suc (suc (suc n))))) = Comment
 
 kind_back : (kind : Kind) → kind_at (kind_number kind) ≡ kind
 unfolding kind_at
@@ -31,6 +34,7 @@ kind_back Element = refl
 kind_back Attribute = refl
 kind_back Text = refl
 kind_back Instruction = refl
+kind_back Comment = refl
 
 same_kind : (a b : Kind) → kind_number a ≡ kind_number b → a ≡ b
 same_kind a b e = sym (kind_back a) ∙ ap kind_at e ∙ kind_back b
@@ -112,6 +116,7 @@ module _ (c d : Columns) (fuller : IsFuller c d) where
     count = ap length e ∙ s.count;
     root = ap (λ xs. get_or xs 0 no_name) e ∙ s.root;
     text = ap (λ xs. get_or xs 1 no_name) e ∙ s.text;
+    comment = ap (λ xs. get_or xs 2 no_name) e ∙ s.comment;
     spelled = λ k name h. subst (λ q. SpellsName d q name) (ap (λ xs. get_or xs (3 + k) no_name) (sym e)) (spells_name_still c d fuller (name_at c (3 + k)) name (s.spelled k name h));
   }
 
@@ -126,6 +131,7 @@ module _ (c d : Columns) (fuller : IsFuller c d) where
     count = omega (arith, ap length e, length-append c.names (place ∷ []), length-append names (name ∷ []), s.count);
     root = name_same c d fuller 0 (omega (arith, s.count)) ∙ s.root;
     text = name_same c d fuller 1 (omega (arith, s.count)) ∙ s.text;
+    comment = name_same c d fuller 2 (omega (arith, s.count)) ∙ s.comment;
     spelled = λ k other h. elim (pushed names name other k h) [
       | inl o ↦ subst (λ q. SpellsName d q other) (sym (name_same c d fuller (3 + k) (omega (arith, s.count, slice_get_within names k other o)))) (spells_name_still c d fuller (name_at c (3 + k)) other (s.spelled k other o))
       | inr n ↦
@@ -151,29 +157,39 @@ no_root kind h e = false≢true (sym (ap has_name e) ∙ h)
 no_text : (kind : Kind) → has_name kind ≡ true → kind ≡ Text → ⊥
 no_text kind h e = false≢true (sym (ap has_name e) ∙ h)
 
+no_comment : (kind : Kind) → has_name kind ≡ true → kind ≡ Comment → ⊥
+no_comment kind h e = false≢true (sym (ap has_name e) ∙ h)
+
 -- the texts of the next name stand at its places once they are filled
-pub next_spells : (c d : Columns) (name : Name) → d.texts ≡ c.texts ++ name.uri ++ name.local → SpellsName d (name_next c name.kind name.uri name.local) name
+pub next_spells : (c d : Columns) (name : Name) → d.texts ≡ name_texts c.texts name.uri name.local → SpellsName d (name_next c name.kind name.uri name.local) name
 next_spells c d name e =
-    let len : length d.texts ≡ length c.texts + length name.uri + length name.local = ap length e ∙ length-append (c.texts ++ name.uri) name.local ∙ ap (λ n. n + length name.local) (length-append c.texts name.uri) in
+    let first : length (padded c.texts ++ name.uri) ≡ text_place (length c.texts) + length name.uri = placed-length c.texts name.uri in
+    let len : length d.texts ≡ text_place (text_place (length c.texts) + length name.uri) + length name.local = ap length e ∙ name_texts-length c.texts name.uri name.local in
+    let near = place_behind (text_place (length c.texts) + length name.uri) in
     record {
-      fits = record { uri = omega (arith, len); local = omega (arith, len) };
+      fits = record { uri = omega (arith, len, near); local = omega (arith, len) };
       kind = refl;
-      uri = ap (λ t. slice_of t (length c.texts) (length name.uri)) e ∙ slice_at c.texts name.uri name.local (length c.texts) (length name.uri) refl refl;
-      local = ap (λ t. slice_of t (length c.texts + length name.uri) (length name.local)) e ∙ slice_end (c.texts ++ name.uri) name.local (length c.texts + length name.uri) (length name.local) (sym (length-append c.texts name.uri)) refl;
+      uri = ap (λ t. slice_of t (text_place (length c.texts)) (length name.uri)) (e ∙ placed_grows (padded c.texts ++ name.uri) name.local)
+          ∙ slice_at (padded c.texts) name.uri (gap_of (padded c.texts ++ name.uri) ++ name.local) (text_place (length c.texts)) (length name.uri) (sym (padded-length c.texts)) refl;
+      local = ap (λ t. slice_of t (text_place (text_place (length c.texts) + length name.uri)) (length name.local)) e
+          ∙ slice_end (padded (padded c.texts ++ name.uri)) name.local (text_place (text_place (length c.texts) + length name.uri)) (length name.local) (sym (padded-length (padded c.texts ++ name.uri) ∙ ap text_place first)) refl;
     }
 
 -- a name that the pool doesn't have is new to the table
-pub next_is_fresh : (c d : Columns) (names : List Name) (name : Name) → IsFuller c d → NamesStand c names → d.names ≡ c.names → d.texts ≡ c.texts ++ name.uri ++ name.local → has_name name.kind ≡ true
+pub next_is_fresh : (c d : Columns) (names : List Name) (name : Name) → IsFuller c d → NamesStand c names → d.names ≡ c.names → d.texts ≡ name_texts c.texts name.uri name.local → has_name name.kind ≡ true
     → ((k : ℕ) → slice_get names k ≡ Some name → ⊥) → IsFresh d (name_next c name.kind name.uri name.local)
-next_is_fresh c d names name fuller s e t h absent id l ne same =
+next_is_fresh c d names name fuller s e t h absent id l same =
     let stand = names_still c d fuller names s e in
     let next = next_spells c d name t in
     elim (cases_lt id 3) [
       | inl low ↦ elim (cases_eq id 0) [
         | inl z ↦ no_root name.kind h (sym (sym (ap (λ (p : NamePlace). p.kind) (ap (name_at d) z ∙ stand.root)) ∙ same.kind))
-        | inr nz ↦
-            let one : id ≡ 1 = omega arith in
-            no_text name.kind h (sym (sym (ap (λ (p : NamePlace). p.kind) (ap (name_at d) one ∙ stand.text)) ∙ same.kind))
+        | inr nz ↦ elim (cases_eq id 1) [
+          | inl one ↦ no_text name.kind h (sym (sym (ap (λ (p : NamePlace). p.kind) (ap (name_at d) one ∙ stand.text)) ∙ same.kind))
+          | inr more ↦
+              let two : id ≡ 2 = omega arith in
+              no_comment name.kind h (sym (sym (ap (λ (p : NamePlace). p.kind) (ap (name_at d) two ∙ stand.comment)) ∙ same.kind))
+        ]
       ]
       | inr high ↦
           let k : ℕ = id - 3 in

@@ -5,7 +5,7 @@ use Rattle.doc_model.specs.declared.places.PrefixPlace.{PrefixPlace}
 use Rattle.doc_model.specs.declared.places.RowPlace.{RowPlace}
 use Rattle.doc_model.specs.declared.row.Kind.{Kind}
 use Rattle.doc_model.specs.declared.row.Row.{Row}
-use Rattle.doc_model.specs.Cells.{Columns, Cells, name_at, prefix_at, slice_of, row_of, no_name, text_name, with_text, with_name, with_prefix}
+use Rattle.doc_model.specs.Cells.{Columns, Cells, name_at, prefix_at, slice_of, row_of, no_name, text_name, comment_name, text_place, padded, with_text, with_name, with_prefix}
 use Rattle.doc_model.specs.Legal.{NameFits, PrefixFits}
 use Rattle.name_pool.specs.Names.{Name}
 
@@ -25,6 +25,7 @@ pub record NamesStand (c : Columns) (names : List Name) : Type 0 where
   pub count : length c.names ≡ 3 + length names
   pub root : name_at c 0 ≡ no_name
   pub text : name_at c 1 ≡ text_name
+  pub comment : name_at c 2 ≡ comment_name
   pub spelled : (k : ℕ) (name : Name) → slice_get names k ≡ Some name → SpellsName c (name_at c (3 + k)) name
 
 -- the prefixes of the table are the empty one and these, in this order
@@ -53,9 +54,13 @@ pub record FillsTexts (before later : Cells) : Type 0 where
   pub places : later.columns.places ≡ before.columns.places
   pub steps : later.steps ≡ before.steps
 
+-- the texts with those of a new name
+abbrev pub name_texts : List ℕ → List ℕ → List ℕ → List ℕ
+name_texts texts uri local = padded (padded texts ++ uri) ++ local
+
 -- the place of a new name whose texts are filled next
 abbrev pub name_next : Columns → Kind → List ℕ → List ℕ → NamePlace
-name_next c kind uri local = record { kind = kind; uri_at = length c.texts; uri_len = length uri; local_at = length c.texts + length uri; local_len = length local }
+name_next c kind uri local = record { kind = kind; uri_at = text_place (length c.texts); uri_len = length uri; local_at = text_place (text_place (length c.texts) + length uri); local_len = length local }
 
 -- the table with a new name and its texts
 abbrev pub with_new_name : Cells → Kind → List ℕ → List ℕ → Cells
@@ -63,4 +68,4 @@ with_new_name cells kind uri local = with_name (with_text (with_text cells uri) 
 
 -- the table with a new prefix and its text
 abbrev pub with_new_prefix : Cells → List ℕ → Cells
-with_new_prefix cells prefix = with_prefix (with_text cells prefix) (record { at = length cells.columns.texts; len = length prefix })
+with_new_prefix cells prefix = with_prefix (with_text cells prefix) (record { at = text_place (length cells.columns.texts); len = length prefix })

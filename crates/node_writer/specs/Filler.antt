@@ -1,19 +1,20 @@
 -- What holds of a filler and the table that it fills.
-use Rattle.std.specs.Prelude.{◌≡◌, ◌≢◌, ℕ, suc, ◌+◌, ◌<◌, ◌≤◌, ◌^◌, List, [], ◌∷◌, ◌++◌, length, None, IfSome, ⊤}
+use Rattle.std.specs.Prelude.{◌≡◌, ◌≢◌, false, ℕ, suc, ◌+◌, ◌*◌, ◌<◌, ◌≤◌, ◌^◌, List, [], ◌∷◌, ◌++◌, length, None, IfSome, ⊤}
 use Rattle.doc_model.specs.declared.limits.Limits.{Limits}
 use Rattle.doc_model.specs.declared.places.RowPlace.{RowPlace}
-use Rattle.doc_model.specs.declared.row.Kind.TheVariants.{Root, Element, Attribute, Text}
+use Rattle.doc_model.specs.declared.row.Kind.TheVariants.{Root, Element, Attribute}
 use Rattle.doc_model.specs.declared.row.Row.{Row}
 use Rattle.doc_model.specs.Cells.{Columns, name_at, prefix_at, place_at}
 use Rattle.name_pool.specs.Names.{Name}
 use Rattle.node_writer.specs.declared.filler.Filler.{Filler}
 use Rattle.node_writer.specs.declared.filler.Links.{Links}
 use Rattle.node_writer.specs.Filled.{NamesStand, PrefixesStand, SpellsName, SpellsPrefix, SpellsRow, IsFuller}
-use Rattle.node_writer.specs.Taken.{name_added, prefix_added, names_with, names_from, prefixes_from, name_bytes, prefix_bytes, value_bytes}
+use Rattle.node_writer.specs.Taken.{has_name, name_added, prefix_added, names_with, names_from, prefixes_from, name_bytes, prefix_bytes, value_bytes}
 
--- the numbers are those of the table, and its pool has the table's names
+-- the numbers are those of the table, and its pool has the table's names; there are at most six bytes of a gap for each row and prefix, and twelve for each name
 pub record FillerStands (filler : Filler) (limits : Limits) (c : Columns) : Type 0 where
-  pub text : filler.text ≡ length c.texts
+  pub at : filler.at ≡ length c.texts
+  pub gaps : filler.at ≤ filler.text + 6 * (filler.rows + 2 * length filler.pool.names + length filler.pool.prefixes)
   pub rows : filler.rows ≡ length c.places
   pub types : filler.types ≡ length c.names
   pub prefix_numbers : filler.prefixes ≡ length c.prefixes
@@ -24,14 +25,16 @@ pub record FillerStands (filler : Filler) (limits : Limits) (c : Columns) : Type
   pub small : limits.text < 2 ^ 32
   pub rows_small : limits.rows < 2 ^ 32
 
--- there is room for a name, if it is new
+-- there is room for a name, if it is new, and for the row that has it
 pub record NameFits (filler : Filler) (limits : Limits) (name : Name) : Type 0 where
+  pub rows : filler.rows < limits.rows
   pub names : length (name_added filler.pool.names name) + length filler.pool.prefixes ≤ limits.names
   pub text : filler.text + name_bytes (name_added filler.pool.names name) ≤ limits.text + name_bytes filler.pool.names
 
 -- the filler after a name: it is in the pool, and its bytes were counted if it was new
 pub record NameFilled (old new : Filler) (limits : Limits) (after : Columns) (name : Name) : Type 0 where
   pub stands : FillerStands new limits after
+  pub rows : new.rows ≡ old.rows
   pub names : new.pool.names ≡ name_added old.pool.names name
   pub prefixes : new.pool.prefixes ≡ old.pool.prefixes
   pub text : new.text + name_bytes old.pool.names ≡ old.text + name_bytes new.pool.names
@@ -39,17 +42,18 @@ pub record NameFilled (old new : Filler) (limits : Limits) (after : Columns) (na
 -- the type number is that of the name
 pub record IsTypeOf (c : Columns) (id : ℕ) (name : Name) : Type 0 where
   pub within : id < length c.names
-  pub kept : id ≢ 2
   pub spells : SpellsName c (name_at c id) name
 
--- there is room for a prefix, if it is new
+-- there is room for a prefix, if it is new, and for the row that has it
 pub record PrefixFits (filler : Filler) (limits : Limits) (prefix : List ℕ) : Type 0 where
+  pub rows : filler.rows < limits.rows
   pub names : length filler.pool.names + length (prefix_added filler.pool.prefixes prefix) ≤ limits.names
   pub text : filler.text + prefix_bytes (prefix_added filler.pool.prefixes prefix) ≤ limits.text + prefix_bytes filler.pool.prefixes
 
 -- the filler after a prefix
 pub record PrefixFilled (old new : Filler) (limits : Limits) (after : Columns) (prefix : List ℕ) : Type 0 where
   pub stands : FillerStands new limits after
+  pub rows : new.rows ≡ old.rows
   pub names : new.pool.names ≡ old.pool.names
   pub prefixes : new.pool.prefixes ≡ prefix_added old.pool.prefixes prefix
   pub text : new.text + prefix_bytes old.pool.prefixes ≡ old.text + prefix_bytes new.pool.prefixes
@@ -58,20 +62,22 @@ pub record IsPrefixOf (c : Columns) (id : ℕ) (prefix : List ℕ) : Type 0 wher
   pub within : id < length c.prefixes
   pub spells : SpellsPrefix c (prefix_at c id) prefix
 
--- a row that a source can give: not the root, and a text has no name
+-- a row that a source can give: not the root, and a text or a comment has no name
 pub record IsGiven (row : Row) : Type 0 where
   pub kind : row.kind ≢ Root
-  pub uri : row.kind ≡ Text → row.uri ≡ []
-  pub local : row.kind ≡ Text → row.local ≡ []
+  pub uri : has_name row.kind ≡ false → row.uri ≡ []
+  pub local : has_name row.kind ≡ false → row.local ≡ []
 
--- there is room for the name of a row, if it is new
+-- there is room for a row and for its name, if that is new
 pub record TypeFits (filler : Filler) (limits : Limits) (row : Row) : Type 0 where
+  pub rows : filler.rows < limits.rows
   pub names : length (names_with filler.pool.names row) + length filler.pool.prefixes ≤ limits.names
   pub text : filler.text + name_bytes (names_with filler.pool.names row) ≤ limits.text + name_bytes filler.pool.names
 
 -- the filler after the name of a row
 pub record TypeFilled (old new : Filler) (limits : Limits) (after : Columns) (row : Row) : Type 0 where
   pub stands : FillerStands new limits after
+  pub rows : new.rows ≡ old.rows
   pub names : new.pool.names ≡ names_with old.pool.names row
   pub prefixes : new.pool.prefixes ≡ old.pool.prefixes
   pub text : new.text + name_bytes old.pool.names ≡ old.text + name_bytes new.pool.names

@@ -2,17 +2,11 @@
 use Rattle.std.specs.Prelude.{ℕ, ◌+◌, ◌≤◌, Bool, true, false, ◌||◌, ◌&&◌, ◌==◌, if◌then◌else◌, List, [], ◌∷◌, ◌++◌, length, sum_by, bytes_eq}
 use Rattle.doc_model.specs.declared.limits.Limits.{Limits}
 use Rattle.doc_model.specs.declared.row.Kind.{Kind}
-use Rattle.doc_model.specs.declared.row.Kind.TheVariants.{Root, Element, Attribute, Text, Instruction}
+use Rattle.doc_model.specs.declared.row.Kind.TheVariants.{Root, Element, Attribute, Text, Instruction, Comment}
 use Rattle.doc_model.specs.declared.row.Row.{Row}
 use Rattle.doc_model.specs.Legible.{is_empty}
+use Rattle.doc_model.specs.Numbers.{kind_number}
 use Rattle.name_pool.specs.Names.{Name}
-
-abbrev pub kind_number : Kind → ℕ
-kind_number Root = 0
-kind_number Element = 1
-kind_number Attribute = 2
-kind_number Text = 3
-kind_number Instruction = 4
 
 -- kind, URI and local name are the same
 abbrev pub is_same : Name → Name → Bool
@@ -26,13 +20,14 @@ abbrev pub is_prefix_of : List ℕ → List (List ℕ) → Bool
 is_prefix_of prefix [] = false
 is_prefix_of prefix (other ∷ prefixes) = bytes_eq prefix other || is_prefix_of prefix prefixes
 
--- elements, attributes and instructions have a name; the root and texts have none
+-- elements, attributes and instructions have a name; the root, texts and comments have none
 abbrev pub has_name : Kind → Bool
 has_name Root = false
 has_name Element = true
 has_name Attribute = true
 has_name Text = false
 has_name Instruction = true
+has_name Comment = false
 
 abbrev pub name_of_row : Row → Name
 name_of_row row = record { kind = row.kind; uri = row.uri; local = row.local }

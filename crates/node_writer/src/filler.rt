@@ -1,24 +1,30 @@
-ghost use Rattle.std.specs.Prelude.{◌≡◌, ◌+◌, ◌<◌, ◌≤◌, ◌^◌, ◌++◌, ◌∷◌, [], true, length, None, OnOk, IfOk};
-ghost use Rattle.doc_model.specs.Cells.{with_text, free_of, place_at};
+ghost use Rattle.std.specs.Prelude.{◌≡◌, ◌+◌, ◌*◌, ◌<◌, ◌≤◌, ◌^◌, ◌∷◌, [], true, length, None, OnOk, IfOk};
+ghost use Rattle.doc_model.specs.Cells.{with_text, free_of, place_at, text_place, text_words};
+ghost use Rattle.doc_model.specs.Document.{document_of};
 ghost use Rattle.doc_model.specs.Lawful.{AllAttributes};
 ghost use Rattle.doc_model.specs.Legal.{IsFresh};
-ghost use Rattle.node_writer.specs.Filled.{FillsTexts, name_next, with_new_name, with_new_prefix};
+ghost use Rattle.node_writer.specs.Filled.{FillsTexts, name_texts, name_next, with_new_name, with_new_prefix};
 ghost use Rattle.node_writer.specs.Filler.{FillerStands, NameFits, NameFilled, IsTypeOf, PrefixFits, PrefixFilled, IsPrefixOf, IsGiven, TypeFits, TypeFilled, RowsFit, LinksFit, RowsFilled};
 ghost use Rattle.node_writer.specs.Taken.{has_name, name_of_row};
 
-use doc_model::{GrowCells, Kind, NamePlace, Row, RowPlace};
+use doc_model::{GrowCells, Kind, NamePlace, Row, RowPlace, text_place};
 use name_pool::{Memory, NamePool, PoolError};
 use std::alloc::Global;
 
 /// The type number of texts.
 const TEXT_TYPE: u32 = 1;
 
+/// The type number of comments.
+const COMMENT_TYPE: u32 = 2;
+
 /// The numbers of what is filled.
 #[derive(Drop)]
 pub(crate) struct Filler {
     pub(crate) pool: NamePool,
-    /// Bytes of the texts.
+    /// Bytes that were counted: those of the texts, without the gaps between them.
     pub(crate) text: u64,
+    /// Where the texts end, in bytes.
+    pub(crate) at: u64,
     pub(crate) rows: u32,
     /// Type numbers, the three of the start counted.
     pub(crate) types: u32,
@@ -37,31 +43,39 @@ pub(crate) struct Links {
 impl Filler {
     /// Fills the bytes, and gives their place.
     pub(crate) fn text<C: GrowCells>(&mut self, c: &mut C, bytes: &[u8]) -> u64
-        requires text { self.old.text ≡ length (C.cells c.old).columns.texts }
+        requires going { (document_of (C.cells c.old).steps).ended ≡ None }
+        requires at { self.old.at ≡ length (C.cells c.old).columns.texts }
+        requires words { 7 * text_words (C.limits c.old) < 2 ^ 62 }
         requires small { (C.limits c.old).text < 2 ^ 32 }
-        requires room { length (C.cells c.old).columns.texts + length bytes.now ≤ (C.limits c.old).text }
-        ensures at { result ≡ self.old.text }
-        ensures filler { self.new ≡ record self.old { text = self.old.text + length bytes.now } }
+        requires counted { self.old.text + length bytes.now ≤ (C.limits c.old).text }
+        requires room { text_place self.old.at + length bytes.now ≤ 7 * text_words (C.limits c.old) }
+        ensures at { result ≡ text_place self.old.at }
+        ensures filler { self.new ≡ record self.old { text = self.old.text + length bytes.now; at = text_place self.old.at + length bytes.now } }
+        ensures end { self.new.at ≡ length (C.cells c.new).columns.texts }
         ensures cells { C.cells c.new ≡ with_text (C.cells c.old) bytes.now }
         ensures limits { C.limits c.new ≡ C.limits c.old }
         ensures mark { C.mark c.new ≡ C.mark c.old }
     {
-        let at = self.text;
+        let at = text_place(self.at);
         c.fill_text(at, bytes);
         self.text += bytes.len() as u64;
+        self.at = at + bytes.len() as u64;
         at
     }
 
     /// Fills the next name and its texts.
     pub(crate) fn new_name<C: GrowCells>(&mut self, c: &mut C, kind: Kind, uri: &[u8], local: &[u8])
-        requires text { self.old.text ≡ length (C.cells c.old).columns.texts }
+        requires going { (document_of (C.cells c.old).steps).ended ≡ None }
+        requires at { self.old.at ≡ length (C.cells c.old).columns.texts }
         requires types { self.old.types ≡ length (C.cells c.old).columns.names }
+        requires words { 7 * text_words (C.limits c.old) < 2 ^ 62 }
         requires small { (C.limits c.old).text < 2 ^ 32 }
         requires few { self.old.types + 1 < 2 ^ 32 }
-        requires room { length (C.cells c.old).columns.texts + (length uri.now + length local.now) ≤ (C.limits c.old).text }
+        requires counted { self.old.text + (length uri.now + length local.now) ≤ (C.limits c.old).text }
+        requires room { text_place (text_place self.old.at + length uri.now) + length local.now ≤ 7 * text_words (C.limits c.old) }
         requires name_room { 0 < (free_of (C.limits c.old) (C.cells c.old).columns).names }
-        requires fresh { IsFresh (record (C.cells c.old).columns { texts = (C.cells c.old).columns.texts ++ uri.now ++ local.now }) (name_next (C.cells c.old).columns kind uri.now local.now) }
-        ensures filler { self.new ≡ record self.old { text = self.old.text + length uri.now + length local.now; types = self.old.types + 1 } }
+        requires fresh { IsFresh (record (C.cells c.old).columns { texts = name_texts (C.cells c.old).columns.texts uri.now local.now }) (name_next (C.cells c.old).columns kind uri.now local.now) }
+        ensures filler { self.new ≡ record self.old { text = self.old.text + length uri.now + length local.now; at = text_place (text_place self.old.at + length uri.now) + length local.now; types = self.old.types + 1 } }
         ensures cells { C.cells c.new ≡ with_new_name (C.cells c.old) kind uri.now local.now }
         ensures limits { C.limits c.new ≡ C.limits c.old }
         ensures mark { C.mark c.new ≡ C.mark c.old }
@@ -81,13 +95,16 @@ impl Filler {
 
     /// Fills the next prefix and its text.
     pub(crate) fn new_prefix<C: GrowCells>(&mut self, c: &mut C, prefix: &[u8])
-        requires text { self.old.text ≡ length (C.cells c.old).columns.texts }
+        requires going { (document_of (C.cells c.old).steps).ended ≡ None }
+        requires at { self.old.at ≡ length (C.cells c.old).columns.texts }
         requires prefixes { self.old.prefixes ≡ length (C.cells c.old).columns.prefixes }
+        requires words { 7 * text_words (C.limits c.old) < 2 ^ 62 }
         requires small { (C.limits c.old).text < 2 ^ 32 }
         requires few { self.old.prefixes + 1 < 2 ^ 32 }
-        requires room { length (C.cells c.old).columns.texts + length prefix.now ≤ (C.limits c.old).text }
+        requires counted { self.old.text + length prefix.now ≤ (C.limits c.old).text }
+        requires room { text_place self.old.at + length prefix.now ≤ 7 * text_words (C.limits c.old) }
         requires name_room { 0 < (free_of (C.limits c.old) (C.cells c.old).columns).names }
-        ensures filler { self.new ≡ record self.old { text = self.old.text + length prefix.now; prefixes = self.old.prefixes + 1 } }
+        ensures filler { self.new ≡ record self.old { text = self.old.text + length prefix.now; at = text_place self.old.at + length prefix.now; prefixes = self.old.prefixes + 1 } }
         ensures cells { C.cells c.new ≡ with_new_prefix (C.cells c.old) prefix.now }
         ensures limits { C.limits c.new ≡ C.limits c.old }
         ensures mark { C.mark c.new ≡ C.mark c.old }
@@ -106,6 +123,7 @@ impl Filler {
         uri: &[u8],
         local: &[u8],
     ) -> Result<u32, Memory>
+        requires going { (document_of (C.cells c.old).steps).ended ≡ None }
         requires stands { FillerStands self.old (C.limits c.old) (C.cells c.old).columns }
         requires named { has_name kind ≡ true }
         requires fits { NameFits self.old (C.limits c.old) (record { kind = kind; uri = uri.now; local = local.now }) }
@@ -134,6 +152,7 @@ impl Filler {
         c: &mut C,
         prefix: &[u8],
     ) -> Result<u32, Memory>
+        requires going { (document_of (C.cells c.old).steps).ended ≡ None }
         requires stands { FillerStands self.old (C.limits c.old) (C.cells c.old).columns }
         requires fits { PrefixFits self.old (C.limits c.old) prefix.now }
         ensures ok { OnOk result (PrefixFilled self.old self.new (C.limits c.old) (C.cells c.new).columns prefix.now) }
@@ -156,6 +175,7 @@ impl Filler {
 
     /// The type number of a row, whose name is filled if it is new. Fails only for want of memory.
     fn type_of<C: GrowCells>(&mut self, alloc: Global, c: &mut C, row: &Row) -> Result<u32, Memory>
+        requires going { (document_of (C.cells c.old).steps).ended ≡ None }
         requires stands { FillerStands self.old (C.limits c.old) (C.cells c.old).columns }
         requires given { IsGiven row.now }
         requires fits { TypeFits self.old (C.limits c.old) row.now }
@@ -167,6 +187,7 @@ impl Filler {
     {
         match row.kind {
             Kind::Text => Ok(TEXT_TYPE),
+            Kind::Comment => Ok(COMMENT_TYPE),
             kind => self.name(alloc, c, kind, row.uri.as_slice(), row.local.as_slice()),
         }
     }
@@ -179,6 +200,7 @@ impl Filler {
         row: &Row,
         links: Links,
     ) -> Result<(), Memory>
+        requires going { (document_of (C.cells c.old).steps).ended ≡ None }
         requires stands { FillerStands self.old (C.limits c.old) (C.cells c.old).columns }
         requires given { IsGiven row.now }
         requires fits { RowsFit self.old (C.limits c.old) (row.now ∷ []) }
@@ -215,6 +237,7 @@ impl Filler {
         n: u32,
         attributes: &[Row],
     ) -> Result<(), Memory>
+        requires going { (document_of (C.cells c.old).steps).ended ≡ None }
         requires stands { FillerStands self.old (C.limits c.old) (C.cells c.old).columns }
         requires parent { n < length (C.cells c.old).columns.places }
         requires carried { AllAttributes (place_at (C.cells c.old).columns n).depth attributes.now }

@@ -8,6 +8,3 @@ mod writer;
 
 pub use new_names::NewNames;
 pub use writer::NodeWriter;
-
-#[cfg(test)]
-mod tests;

@@ -3,9 +3,10 @@ ghost use Rattle.std.specs.Prelude.{◌≡◌, ◌+◌, ◌==◌, ◌&&◌, ◌�
 ghost use Rattle.std.specs.Str.{bytes_eq};
 ghost use Rattle.doc_model.specs.declared.limits.Limits.{Limits};
 ghost use Rattle.doc_model.specs.Cells.{Cells};
+ghost use Rattle.doc_model.specs.Numbers.{kind_number};
 ghost use Rattle.doc_model.specs.Rows.{rows_of};
 ghost use Rattle.node_writer.specs.Stands.{Stands};
-ghost use Rattle.node_writer.specs.Taken.{kind_number, is_same, is_name_of, names_of, name_of_row};
+ghost use Rattle.node_writer.specs.Taken.{is_same, is_name_of, names_of, name_of_row};
 ghost use Rattle.node_writer.specs.New.{capped, has_new_name, has_new_prefix, has_type_of, has_prefix_of, AddsNames};
 
 use crate::writer::NodeWriter;
@@ -82,7 +83,7 @@ impl NodeWriter {
         ensures { (limits : Limits) (cells : Cells) → Stands self.now limits cells → result ≡ has_new_name (rows_of cells.steps) row.now }
     {
         match row.kind {
-            Kind::Root | Kind::Text => false,
+            Kind::Root | Kind::Text | Kind::Comment => false,
             kind => self.is_new_name(kind, row.uri.as_slice(), row.local.as_slice()),
         }
     }
@@ -141,12 +142,13 @@ fn is_same_prefix(row: &Row, other: &Row) -> bool
     row.prefix.as_slice() == other.prefix.as_slice()
 }
 
+// Local names first: a new name under a URI of many bytes costs these only beside its equal.
 fn is_same_type(row: &Row, other: &Row) -> bool
     ensures { result ≡ is_same (name_of_row row.now) (name_of_row other.now) }
 {
     is_same_kind(row.kind, other.kind)
-        && row.uri.as_slice() == other.uri.as_slice()
         && row.local.as_slice() == other.local.as_slice()
+        && row.uri.as_slice() == other.uri.as_slice()
 }
 
 fn is_same_kind(kind: Kind, other: Kind) -> bool

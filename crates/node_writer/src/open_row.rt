@@ -49,9 +49,8 @@ pub(crate) fn count_joined(stack: &mut List<OpenRow>, n: u32, kind: Kind) -> Res
         last: Some(n),
     };
     stack.set(at, child);
-    match kind {
-        Kind::Root | Kind::Element => {}
-        Kind::Attribute | Kind::Text | Kind::Instruction => return Ok(()),
+    if !kind.may_have_children() {
+        return Ok(());
     }
     match stack.push(OpenRow { row: n, last: None }) {
         Ok(_) => Ok(()),

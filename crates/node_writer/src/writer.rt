@@ -39,6 +39,7 @@ impl NodeWriter {
         let filler = Filler {
             pool,
             text: 0,
+            at: 0,
             rows: 1,
             types: 3,
             prefixes: 1,

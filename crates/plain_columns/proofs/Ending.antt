@@ -1,5 +1,5 @@
 -- What an end does to the words, and the words of an empty table.
-use Rattle.std.proofs.Common.{◌≡◌, ◌≢◌, ℕ, zero, suc, ◌<◌, ◌≤◌, true, false, eqb, List, [], ◌∷◌, ◌++◌, length, Option, Some, None, get_or, set, refl, ap, sym, ◌∙◌, subst, arith, length-set, inl, inr}
+use Rattle.std.proofs.Common.{◌≡◌, ℕ, zero, suc, ◌<◌, ◌≤◌, true, false, eqb, List, [], ◌∷◌, ◌++◌, length, Option, Some, None, get_or, set, refl, ap, sym, ◌∙◌, subst, arith, length-set, inl, inr}
 use Rattle.std.proofs.lemmas.Bool.{false≢true, or_cases, eqb-true}
 use Rattle.doc_model.specs.declared.row.Row.{Row}
 use Rattle.doc_model.specs.declared.step.Step.{Step}
@@ -15,7 +15,7 @@ use Rattle.doc_model.specs.Rows.{rows_of, root_row, row_at}
 use Rattle.doc_model.specs.Shown.{prev_shown}
 use Rattle.doc_laws.specs.Words.{LinksHold, ExtentsHold, link_of}
 use Rattle.doc_model.specs.declared.row.Kind.{Kind}
-use Rattle.doc_model.specs.declared.row.Kind.TheVariants.{Root, Text}
+use Rattle.doc_model.specs.declared.row.Kind.TheVariants.{Root, Text, Comment}
 use Rattle.doc_laws.proofs.Stack.{StackOf, IsOpenAt, stack_covers, stack_of}
 use Rattle.doc_laws.proofs.Links.{next_past}
 use Rattle.doc_laws.proofs.Words.{extents_shut}
@@ -94,7 +94,7 @@ pub start_spelled : Spelled empty_cells.columns []
 start_spelled = record {
   names = λ k l. names k l;
   prefixes = λ k l. let z : k ≡ 0 = omega arith in subst (λ j. PrefixFits empty_cells.columns (get_or empty_cells.columns.prefixes j no_prefix)) (sym z) (omega arith);
-  rows = λ k l. let z : k ≡ 0 = omega arith in subst (λ j. RowFits empty_cells.columns (place_at empty_cells.columns j)) (sym z) (record { type = omega arith; prefix = omega arith; text = omega arith; parent = omega arith; prev = tt; kept = λ e. absurd (omega arith); kind = refl });
+  rows = λ k l. let z : k ≡ 0 = omega arith in subst (λ j. RowFits empty_cells.columns (place_at empty_cells.columns j)) (sym z) (record { type = omega arith; prefix = omega arith; text = omega arith; parent = omega arith; prev = tt; kind = refl });
   entries = tt;
   distinct = distinct;
 }
@@ -108,14 +108,20 @@ start_spelled = record {
     apart : (a b : Kind) → a ≡ Root → b ≡ Text → a ≡ b → ⊥
     apart a b e f g = let h : Root ≡ Text = sym e ∙ g ∙ f in cc
 
-    distinct : (j k : ℕ) → j < 3 → k < 3 → j ≢ 2 → k ≢ 2 → IsSameName empty_cells.columns (name_at empty_cells.columns j) (name_at empty_cells.columns k) → j ≡ k
-    distinct zero zero l m nj nk s = refl
-    distinct zero (suc zero) l m nj nk s = absurd (apart Root Text refl refl s.kind)
-    distinct (suc zero) zero l m nj nk s = absurd (apart Root Text refl refl (sym s.kind))
-    distinct (suc zero) (suc zero) l m nj nk s = refl
-    distinct (suc (suc j)) k l m nj nk s = absurd (nj (omega arith))
-    distinct zero (suc (suc k)) l m nj nk s = absurd (nk (omega arith))
-    distinct (suc zero) (suc (suc k)) l m nj nk s = absurd (nk (omega arith))
+    distinct : (j k : ℕ) → j < 3 → k < 3 → IsSameName empty_cells.columns (name_at empty_cells.columns j) (name_at empty_cells.columns k) → j ≡ k
+    distinct zero zero l m s = refl
+    distinct zero (suc zero) l m s = absurd (apart Root Text refl refl s.kind)
+    distinct zero (suc (suc zero)) l m s = let h : Root ≡ Comment = s.kind in cc
+    distinct (suc zero) zero l m s = absurd (apart Root Text refl refl (sym s.kind))
+    distinct (suc zero) (suc zero) l m s = refl
+    distinct (suc zero) (suc (suc zero)) l m s = let h : Text ≡ Comment = s.kind in cc
+    distinct (suc (suc zero)) zero l m s = let h : Comment ≡ Root = s.kind in cc
+    distinct (suc (suc zero)) (suc zero) l m s = let h : Comment ≡ Text = s.kind in cc
+    distinct (suc (suc zero)) (suc (suc zero)) l m s = refl
+    distinct (suc (suc (suc j))) k l m s = absurd (omega arith)
+    distinct zero (suc (suc (suc k))) l m s = absurd (omega arith)
+    distinct (suc zero) (suc (suc (suc k))) l m s = absurd (omega arith)
+    distinct (suc (suc zero)) (suc (suc (suc k))) l m s = absurd (omega arith)
 
 pub start_placed : Placed empty_cells.columns [] 1
 start_placed = record { joined = refl; within = omega arith; rows = λ n l. let z : n ≡ 0 = omega arith in subst (λ k. row_at (root_row ∷ []) k ≡ row_of empty_cells.columns (place_at empty_cells.columns k)) (sym z) refl; parents = λ n p l. absurd (omega arith); prevs = λ n l. let z : n ≡ 0 = omega arith in subst (λ k. prev_shown [] (root_row ∷ []) k ≡ (place_at empty_cells.columns k).prev) (sym z) refl; counts = λ n l. let z : n ≡ 0 = omega arith in subst (λ k. attr_count_of (root_row ∷ []) k ≡ (place_at empty_cells.columns k).attr_count) (sym z) refl }

@@ -1,5 +1,5 @@
 -- The table after it is filled further.
-use Rattle.std.proofs.Common.{◌≡◌, ◌≢◌, ℕ, zero, suc, ◌<◌, ◌≤◌, List, [], ◌∷◌, ◌++◌, length, Option, Some, None, IfSome, get_or, refl, ap, sym, ◌∙◌, subst, arith, length-append, inl, inr}
+use Rattle.std.proofs.Common.{◌≡◌, ℕ, zero, suc, ◌<◌, ◌≤◌, List, [], ◌∷◌, ◌++◌, length, Option, Some, None, IfSome, get_or, refl, ap, sym, ◌∙◌, subst, arith, length-append, inl, inr}
 use Rattle.std.proofs.lemmas.Bool.{cases_lt}
 use Rattle.std.proofs.lemmas.List.{get_or_append_left, get_or_at}
 use Rattle.doc_model.specs.declared.step.Step.{Step}
@@ -34,7 +34,7 @@ module _ (c d : Columns) (fuller : IsFuller c d) where
   name_same id l = ap (λ xs. get_or xs id no_name) (fuller.names.1) ∙ get_or_append_left c.names (fuller.names.0) no_name id l
 
   row_fits : (place : RowPlace) → RowFits c place → RowFits d place
-  row_fits place f = record { prev = some_within place.prev (length c.places) (length d.places) places_grow f.prev; type = omega (arith, f.type, names_grow); prefix = omega (arith, f.prefix, prefixes_grow); text = omega (arith, f.text, texts_grow); parent = omega (arith, f.parent, places_grow); kept = f.kept; kind = ap (λ (q : NamePlace). q.kind) (name_same place.type_id f.type) ∙ f.kind }
+  row_fits place f = record { prev = some_within place.prev (length c.places) (length d.places) places_grow f.prev; type = omega (arith, f.type, names_grow); prefix = omega (arith, f.prefix, prefixes_grow); text = omega (arith, f.text, texts_grow); parent = omega (arith, f.parent, places_grow); kind = ap (λ (q : NamePlace). q.kind) (name_same place.type_id f.type) ∙ f.kind }
 
   same_back : (a b : NamePlace) → NameFits c a → NameFits c b → IsSameName d a b → IsSameName c a b
   same_back a b f g s = record {
@@ -44,25 +44,25 @@ module _ (c d : Columns) (fuller : IsFuller c d) where
   }
 
   -- of two numbers that were there
-  distinct_old : (entries : List Entry) → Spelled c entries → (j k : ℕ) → j < length c.names → k < length c.names → j ≢ 2 → k ≢ 2 → IsSameName d (name_at d j) (name_at d k) → j ≡ k
-  distinct_old entries s j k l m nj nk h =
+  distinct_old : (entries : List Entry) → Spelled c entries → (j k : ℕ) → j < length c.names → k < length c.names → IsSameName d (name_at d j) (name_at d k) → j ≡ k
+  distinct_old entries s j k l m h =
       let h' : IsSameName d (name_at c j) (name_at c k) = subst (λ q. IsSameName d q (name_at c k)) (name_same j l) (subst (λ q. IsSameName d (name_at d j) q) (name_same k m) h) in
-      s.distinct j k l m nj nk (same_back (name_at c j) (name_at c k) (s.names j l) (s.names k m) h')
+      s.distinct j k l m (same_back (name_at c j) (name_at c k) (s.names j l) (s.names k m) h')
 
   pub distinct_fuller : (entries : List Entry) → Spelled c entries → d.names ≡ c.names → IsDistinct d
-  distinct_fuller entries s e j k l m nj nk h = distinct_old entries s j k (omega (arith, ap length e)) (omega (arith, ap length e)) nj nk h
+  distinct_fuller entries s e j k l m h = distinct_old entries s j k (omega (arith, ap length e)) (omega (arith, ap length e)) h
 
   pub distinct_name : (entries : List Entry) (name : NamePlace) → Spelled c entries → NameFits c name → IsFresh c name → d.names ≡ c.names ++ name ∷ [] → IsDistinct d
-  distinct_name entries name s f fresh e j k l m nj nk h =
+  distinct_name entries name s f fresh e j k l m h =
       let len : length d.names ≡ suc (length c.names) = ap length e ∙ length-append c.names (name ∷ []) ∙ omega arith in
       let last : name_at d (length c.names) ≡ name = ap (λ xs. get_or xs (length c.names) no_name) e ∙ get_or_at c.names name [] no_name (length c.names) refl in
       elim (cases_lt j (length c.names)) [
         | inl lj ↦ elim (cases_lt k (length c.names)) [
-          | inl lk ↦ distinct_old entries s j k lj lk nj nk h
+          | inl lk ↦ distinct_old entries s j k lj lk h
           | inr gk ↦
               let ek : k ≡ length c.names = omega arith in
               let at : name_at d k ≡ name = ap (name_at d) ek ∙ last in
-              absurd (fresh j lj nj (same_back (name_at c j) name (s.names j lj) f (subst (λ q. IsSameName d q name) (name_same j lj) (subst (λ q. IsSameName d (name_at d j) q) at h))))
+              absurd (fresh j lj (same_back (name_at c j) name (s.names j lj) f (subst (λ q. IsSameName d q name) (name_same j lj) (subst (λ q. IsSameName d (name_at d j) q) at h))))
         ]
         | inr gj ↦
             let ej : j ≡ length c.names = omega arith in
@@ -70,7 +70,7 @@ module _ (c d : Columns) (fuller : IsFuller c d) where
             elim (cases_lt k (length c.names)) [
               | inl lk ↦
                   let b = same_back name (name_at c k) f (s.names k lk) (subst (λ q. IsSameName d q (name_at c k)) at (subst (λ q. IsSameName d (name_at d j) q) (name_same k lk) h)) in
-                  absurd (fresh k lk nk (record { kind = sym b.kind; uri = sym b.uri; local = sym b.local }))
+                  absurd (fresh k lk (record { kind = sym b.kind; uri = sym b.uri; local = sym b.local }))
               | inr gk ↦ omega arith
             ]
       ]

@@ -1,5 +1,5 @@
 -- Filling leaves what is spelled.
-use Rattle.std.proofs.Common.{◌≡◌, ℕ, suc, ◌+◌, ◌<◌, ◌≤◌, List, [], ◌∷◌, ◌++◌, length, Option, take, drop, get_or, map, refl, ap, ap₂, sym, ◌∙◌, arith, append-nil, length-append, length-take, length-drop, get_or-take, get_or-drop}
+use Rattle.std.proofs.Common.{◌≡◌, ℕ, suc, ◌+◌, ◌<◌, ◌≤◌, List, [], ◌∷◌, ◌++◌, length, Option, take, drop, get_or, map, refl, ap, ap₂, sym, ◌∙◌, arith, append-nil, append_assoc, length-append, length-take, length-drop, get_or-take, get_or-drop}
 use Rattle.std.proofs.lemmas.List.{get_or_append_left, take-append-le, drop-append-le}
 use Rattle.doc_model.specs.declared.row.Row.{Row}
 use Rattle.doc_model.specs.declared.step.Step.TheVariants.{Node, Shut as shut_step}
@@ -7,7 +7,7 @@ use Rattle.doc_model.specs.declared.step.Verdict.{Verdict}
 use Rattle.doc_model.specs.declared.places.RowPlace.{RowPlace}
 use Rattle.doc_model.specs.declared.places.NamePlace.{NamePlace}
 use Rattle.doc_model.specs.declared.places.PrefixPlace.{PrefixPlace}
-use Rattle.doc_model.specs.Cells.{Columns, place_at, row_of, node_at, root_place, slice_of, no_name, no_prefix}
+use Rattle.doc_model.specs.Cells.{Columns, place_at, row_of, node_at, root_place, slice_of, padded, no_name, no_prefix}
 use Rattle.doc_model.specs.Legal.{RowFits}
 use Rattle.plain_columns.specs.declared.entry.Entry.{Entry}
 use Rattle.plain_columns.specs.declared.entry.Entry.TheVariants.{Join, Shut}
@@ -80,8 +80,9 @@ module _ (c d : Columns) (fuller : IsFuller c d) where
       (omega (arith, f.0), log_same log f.1)
   log_same (Shut ∷ log) f = (tt, log_same log f.1)
 
-pub more_text : (c : Columns) (bs texts : List ℕ) → texts ≡ c.texts ++ bs → IsFuller c (record c { texts = texts })
-more_text c bs texts e = record { texts = (bs, e); names = ([], sym (append-nil _)); prefixes = ([], sym (append-nil _)); places = ([], sym (append-nil _)) }
+-- the bytes behind the gap
+pub more_placed : (c : Columns) (bytes texts : List ℕ) → texts ≡ padded c.texts ++ bytes → IsFuller c (record c { texts = texts })
+more_placed c bytes texts e = record { texts = (_, e ∙ append_assoc c.texts _ bytes); names = ([], sym (append-nil _)); prefixes = ([], sym (append-nil _)); places = ([], sym (append-nil _)) }
 
 pub more_row : (c : Columns) (place : RowPlace) (places : List RowPlace) → places ≡ c.places ++ place ∷ [] → IsFuller c (record c { places = places })
 more_row c place places e = record { texts = ([], sym (append-nil _)); names = ([], sym (append-nil _)); prefixes = ([], sym (append-nil _)); places = (place ∷ [], e) }

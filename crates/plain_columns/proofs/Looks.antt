@@ -3,7 +3,7 @@ use Rattle.std.proofs.Common.{◌≡◌, ℕ, zero, suc, ◌+◌, ◌-◌, ◌<�
 use Rattle.std.proofs.lemmas.Bool.{cases_Bool, false≢true}
 use Rattle.doc_model.specs.declared.row.Row.{Row}
 use Rattle.doc_model.specs.declared.row.Kind.{Kind}
-use Rattle.doc_model.specs.declared.row.Kind.TheVariants.{Root, Element, Attribute, Text, Instruction}
+use Rattle.doc_model.specs.declared.row.Kind.TheVariants.{Root, Element, Attribute, Text, Instruction, Comment, Comment}
 use Rattle.doc_model.specs.declared.step.Step.{Step}
 use Rattle.doc_model.specs.declared.step.Verdict.{Verdict}
 use Rattle.doc_model.specs.declared.look.Look.{Look}
@@ -42,6 +42,7 @@ leaf_kind Element a b = absurd (b refl)
 leaf_kind Attribute a b = refl
 leaf_kind Text a b = refl
 leaf_kind Instruction a b = refl
+leaf_kind Comment a b = refl
 
 pub inner_kind : (k : Kind) → (k ≡ Attribute → ⊥) → is_attribute k ≡ false
 inner_kind Root a = refl
@@ -49,6 +50,7 @@ inner_kind Element a = refl
 inner_kind Attribute a = absurd (a refl)
 inner_kind Text a = refl
 inner_kind Instruction a = refl
+inner_kind Comment a = refl
 
 -- the word of a link, and the row that decides it
 look_is : (p : List Step) (link decider : List Row → Option ℕ) (w e : ℕ) (parent : Bool) (d : ℕ)

@@ -24,7 +24,7 @@ same_number c p q f g e = record {
 }
 
 one_number : (c : Columns) (entries : List Entry) (p q : RowPlace) → Spelled c entries → RowFits c p → RowFits c q → IsSameType (row_of c p) (row_of c q) → p.type_id ≡ q.type_id
-one_number c entries p q s f g t = s.distinct p.type_id q.type_id f.type g.type f.kept g.kept (record { kind = f.kind ∙ t.kind ∙ sym g.kind; uri = t.uri; local = t.local })
+one_number c entries p q s f g t = s.distinct p.type_id q.type_id f.type g.type (record { kind = f.kind ∙ t.kind ∙ sym g.kind; uri = t.uri; local = t.local })
 
 module _ (c : Columns) (entries : List Entry) (steps : List Step) (count : ℕ) (spelled : Spelled c entries) (placed : Placed c steps count) where
   pub type_at : (k : ℕ) → k < length (rows_of steps) → get_or (types_of (record { columns = c; steps = steps })) k 0 ≡ (place_at c k).type_id

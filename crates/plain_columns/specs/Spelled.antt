@@ -1,5 +1,5 @@
 -- The steps that the words of a table spell, and when its columns stand for them.
-use Rattle.std.specs.Prelude.{◌≡◌, ◌≢◌, ℕ, ◌+◌, ◌*◌, ◌<◌, ◌≤◌, List, [], ◌∷◌, ◌++◌, length, Option, Some, None, slice_index_or, map, ⊤}
+use Rattle.std.specs.Prelude.{◌≡◌, ℕ, ◌+◌, ◌*◌, ◌<◌, ◌≤◌, List, [], ◌∷◌, ◌++◌, length, Option, Some, None, slice_index_or, map, ⊤}
 use Rattle.doc_model.specs.declared.step.Step.{Step}
 use Rattle.doc_model.specs.declared.step.Step.TheVariants.{Shut as shut_step, End as end_step}
 use Rattle.doc_model.specs.declared.step.Verdict.{Verdict}
@@ -34,9 +34,9 @@ abbrev pub LogFits : Columns → List Entry → Type 0
 LogFits c [] = ⊤
 LogFits c (entry ∷ log) = EntryFits c entry × LogFits c log
 
--- no two type numbers are of one name, but for 2, which is kept
+-- no two type numbers are of one name
 abbrev pub IsDistinct : Columns → Type 0
-IsDistinct c = (j k : ℕ) → j < length c.names → k < length c.names → j ≢ 2 → k ≢ 2 → IsSameName c (name_at c j) (name_at c k) → j ≡ k
+IsDistinct c = (j k : ℕ) → j < length c.names → k < length c.names → IsSameName c (name_at c j) (name_at c k) → j ≡ k
 
 -- all that is named is filled
 pub record Spelled (c : Columns) (log : List Entry) : Type 0 where

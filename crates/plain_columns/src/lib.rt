@@ -2,6 +2,7 @@
 #![tactic(auto)]
 
 mod entry;
+mod stored_row;
 mod table;
 mod view;
 

@@ -9,7 +9,7 @@ use std::alloc::{AllocError, Global};
 use std::marker::Model;
 
 /// A table that is borrowed to be read, and so stands still. Every call but `text` and `name` costs
-/// O(1), or the bytes that it compares.
+/// O(1), or the bytes that it compares: of two names the local parts first.
 #[derive(Drop)]
 pub struct PlainView<'a> {
     table: &'a Plain,
@@ -36,6 +36,10 @@ impl<'a> NodeView for PlainView<'a> {
     ghost Mark = { ⊤ };
 
     ghost sees = { λ v. seen_of v.cells };
+
+    fn told(&mut self) {
+        self.table.told();
+    }
 
     fn kind(&mut self, n: u32) -> Kind {
         self.table.told();
@@ -111,13 +115,12 @@ impl<'a> NodeView for PlainView<'a> {
 
     fn name_is(&mut self, n: u32, uri: &[u8], local: Option<&[u8]>) -> bool {
         self.table.told();
-        if self.table.uri_of(n) != uri {
-            return false;
+        if let Some(part) = local {
+            if self.table.local_of(n) != part {
+                return false;
+            }
         }
-        match local {
-            Some(part) => self.table.local_of(n) == part,
-            None => true,
-        }
+        self.table.uri_of(n) == uri
     }
 
     fn value_is(&mut self, n: u32, text: &[u8]) -> bool {

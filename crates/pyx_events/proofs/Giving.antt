@@ -10,7 +10,7 @@ use Rattle.pyx_events.specs.declared.event.Event.{Event}
 use Rattle.pyx_events.specs.declared.event_error.EventError.{EventError}
 use Rattle.pyx_events.specs.declared.event_error.EventError.TheVariants.{Refused, Memory}
 use Rattle.pyx_events.specs.declared.pending_start.PendingStart.{PendingStart}
-use Rattle.pyx_events.specs.Before.{bindings, depth, value_bytes}
+use Rattle.pyx_events.specs.Before.{bindings, uris_to, depth, value_bytes}
 use Rattle.pyx_events.specs.Counted.{free_names}
 use Rattle.pyx_events.specs.Nodes.{completed, start_node}
 use Rattle.pyx_events.specs.Flaw.{start_flaw, start_line, at_line, or_kind, if_pending, names_flaw, completed_flaw, in_order}
@@ -76,36 +76,37 @@ answered limits before start own events given node good is same =
     }
 
 -- the start that was taken out is the one that is completed, and what it needs is kept
-pub record IsAt (limits : Limits) (before : List Line) (first start : Option PendingStart) (bound : List Binding) (deep : ℕ) : Type 0 where
+pub record IsAt (limits : Limits) (before : List Line) (first start : Option PendingStart) (uris : List (List ℕ)) (bound : List Binding) (deep : ℕ) : Type 0 where
   pub is : start ≡ first
+  pub known : uris_to before ≡ uris
   pub binds : bindings 0 before ≡ bound
   pub open_elements : depth before ≡ deep
   pub space : value_bytes before ≤ limits.text
 
-pub node_completed : (limits : Limits) (before : List Line) (first start : Option PendingStart) (bound : List Binding) (deep : ℕ) (node : List Event)
-    → IsAt limits before first start bound deep → node ≡ start_node bound deep start → node ≡ completed before first
-node_completed limits before first start bound deep node at given = rw (at.binds, at.open_elements, ← at.is) given
+pub node_completed : (limits : Limits) (before : List Line) (first start : Option PendingStart) (uris : List (List ℕ)) (bound : List Binding) (deep : ℕ) (node : List Event)
+    → IsAt limits before first start uris bound deep → node ≡ start_node uris bound deep start → node ≡ completed before first
+node_completed limits before first start uris bound deep node at given = rw (at.known, at.binds, at.open_elements, ← at.is) given
 
-pub refused_first : (limits : Limits) (before : List Line) (first start : Option PendingStart) (bound : List Binding) (deep : ℕ) (own : Option FlawKind) (events : List Event) (error : EventError)
-    → IsAt limits before first start bound deep
+pub refused_first : (limits : Limits) (before : List Line) (first start : Option PendingStart) (uris : List (List ℕ)) (bound : List Binding) (deep : ℕ) (own : Option FlawKind) (events : List Event) (error : EventError)
+    → IsAt limits before first start uris bound deep
     → IfSome (flaw_in error) (λ flaw. at_line (start_line start) (start_flaw bound deep start) None ≡ Some flaw)
     → IfSome (completed_in error) (λ node. node ≡ [])
     → Gives (in_order limits true before first own) events (sound_node limits before first) (Err error)
-refused_first limits before first start bound deep own events error at r n =
+refused_first limits before first start uris bound deep own events error at r n =
     rw (← at.is) (start_refused limits before start bound deep own events error at.binds at.open_elements r n)
 
-pub refused_own : (limits : Limits) (before : List Line) (first start : Option PendingStart) (bound : List Binding) (deep : ℕ) (own judged : Option FlawKind) (kind : FlawKind) (events node : List Event) (l : ℕ)
-    → IsAt limits before first start bound deep → start_flaw bound deep start ≡ None → judged ≡ own → judged ≡ Some kind → l ≡ length before + 1 → node ≡ start_node bound deep start
+pub refused_own : (limits : Limits) (before : List Line) (first start : Option PendingStart) (uris : List (List ℕ)) (bound : List Binding) (deep : ℕ) (own judged : Option FlawKind) (kind : FlawKind) (events node : List Event) (l : ℕ)
+    → IsAt limits before first start uris bound deep → start_flaw bound deep start ≡ None → judged ≡ own → judged ≡ Some kind → l ≡ length before + 1 → node ≡ start_node uris bound deep start
     → Gives (in_order limits true before first own) events (sound_node limits before first) (Err (Refused (record { line = l; kind = kind }) node))
-refused_own limits before first start bound deep own judged kind events node l at f j is number given =
+refused_own limits before first start uris bound deep own judged kind events node l at f j is number given =
     let good : completed_flaw limits true before start ≡ None = start_sound limits before start bound deep at.binds at.open_elements f at.space in
     let good' : completed_flaw limits true before first ≡ None = rw (← at.is) good in
-    own_refused limits before first own kind events node l good' (sym j ∙ is) number (node_completed limits before first start bound deep node at given)
+    own_refused limits before first own kind events node l good' (sym j ∙ is) number (node_completed limits before first start uris bound deep node at given)
 
-pub given_all : (limits : Limits) (before : List Line) (first start : Option PendingStart) (bound : List Binding) (deep : ℕ) (own judged : Option FlawKind) (events given node : List Event)
-    → IsAt limits before first start bound deep → start_flaw bound deep start ≡ None → judged ≡ own → judged ≡ None → given ≡ events
+pub given_all : (limits : Limits) (before : List Line) (first start : Option PendingStart) (uris : List (List ℕ)) (bound : List Binding) (deep : ℕ) (own judged : Option FlawKind) (events given node : List Event)
+    → IsAt limits before first start uris bound deep → start_flaw bound deep start ≡ None → judged ≡ own → judged ≡ None → given ≡ events
     → Gives (in_order limits true before first own) events node (Ok given)
-given_all limits before first start bound deep own judged events given node at f j is same =
+given_all limits before first start uris bound deep own judged events given node at f j is same =
     let good : completed_flaw limits true before start ≡ None = start_sound limits before start bound deep at.binds at.open_elements f at.space in
     let good' : completed_flaw limits true before first ≡ None = rw (← at.is) good in
     answered limits before first own events given node good' (sym j ∙ is) same

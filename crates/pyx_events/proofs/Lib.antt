@@ -1,3 +1,6 @@
 pub mod Scoping
+pub mod Beginning
 pub mod Giving
 pub mod Least
+pub mod Numbered
+pub mod Unbound

@@ -5,9 +5,10 @@ use Rattle.std.specs.Option.{option_to_list}
 use Rattle.std.specs.Str.{bytes_eq}
 use Rattle.name_grammar.specs.Names.{prefix_of, local_of}
 use Rattle.pyx_lines.specs.declared.line.Line.{Line}
-use Rattle.pyx_lines.specs.declared.line.Line.TheVariants.{Start, End, Attr, Text, Instruction, Passed}
+use Rattle.pyx_lines.specs.declared.line.Line.TheVariants.{Start, End, Attr, Text, Instruction, Comment, Passed}
 use Rattle.xml_names.specs.declared.scopes.Binding.{Binding}
-use Rattle.xml_names.specs.Bindings.{xml_binding, is_fixed}
+use Rattle.xml_names.specs.Bindings.{xml_binding, first_uris, is_fixed}
+use Rattle.shared_texts.specs.Numbers.{with_text}
 use Rattle.pyx_events.specs.declared.pending_start.PendingStart.{PendingStart}
 
 abbrev pub is_start : Line → Bool
@@ -16,6 +17,7 @@ is_start (End name) = false
 is_start (Attr name value) = false
 is_start (Text text) = false
 is_start (Instruction target value) = false
+is_start (Comment text) = false
 is_start Passed = false
 
 abbrev pub is_end : Line → Bool
@@ -24,15 +26,17 @@ is_end (End name) = true
 is_end (Attr name value) = false
 is_end (Text text) = false
 is_end (Instruction target value) = false
+is_end (Comment text) = false
 is_end Passed = false
 
--- a line that completes a pending start: a start, end, character data or instruction line
+-- a line that completes a pending start: a start, end, character data, instruction or comment line
 abbrev pub completes : Line → Bool
 completes (Start name) = true
 completes (End name) = true
 completes (Attr name value) = false
 completes (Text text) = true
 completes (Instruction target value) = true
+completes (Comment text) = true
 completes Passed = false
 
 -- how many elements are open: starts less ends
@@ -52,6 +56,7 @@ innermost k (End name ∷ before) = innermost (suc k) before
 innermost k (Attr name value ∷ before) = innermost k before
 innermost k (Text text ∷ before) = innermost k before
 innermost k (Instruction target value ∷ before) = innermost k before
+innermost k (Comment text ∷ before) = innermost k before
 innermost k (Passed ∷ before) = innermost k before
 
 -- a pending start with one more attribute line
@@ -67,6 +72,7 @@ pending_start (End name ∷ before) = None
 pending_start (Attr name value ∷ before) = with_attribute name value (pending_start before)
 pending_start (Text text ∷ before) = None
 pending_start (Instruction target value ∷ before) = None
+pending_start (Comment text ∷ before) = None
 pending_start (Passed ∷ before) = pending_start before
 
 -- the start that the line completes, if one is pending
@@ -101,7 +107,24 @@ bindings zero (Attr name value ∷ before) = option_to_list (binding_of name val
 bindings (suc k) (Attr name value ∷ before) = bindings (suc k) before
 bindings k (Text text ∷ before) = bindings k before
 bindings k (Instruction target value ∷ before) = bindings k before
+bindings k (Comment text ∷ before) = bindings k before
 bindings k (Passed ∷ before) = bindings k before
+
+-- the URIs with that of one more binding, if there is one
+abbrev pub with_uri : Option Binding → List (List ℕ) → List (List ℕ)
+with_uri None uris = uris
+with_uri (Some binding) uris = with_text uris binding.uri
+
+-- the URIs that were bound so far, also in scopes that have ended, each once and numbered by its place: the first ones, then each in line order
+abbrev pub uris_to : List Line → List (List ℕ)
+uris_to [] = first_uris
+uris_to (Start name ∷ before) = uris_to before
+uris_to (End name ∷ before) = uris_to before
+uris_to (Attr name value ∷ before) = with_uri (binding_of name value) (uris_to before)
+uris_to (Text text ∷ before) = uris_to before
+uris_to (Instruction target value ∷ before) = uris_to before
+uris_to (Comment text ∷ before) = uris_to before
+uris_to (Passed ∷ before) = uris_to before
 
 -- the text that the run of character data lines up to here makes; attribute and passed-over lines don't end a run, and what stands outside the root element is dropped
 abbrev pub pending_text : List Line → List ℕ
@@ -111,6 +134,7 @@ pending_text (End name ∷ before) = []
 pending_text (Attr name value ∷ before) = pending_text before
 pending_text (Text text ∷ before) = if depth before == 0 then pending_text before else pending_text before ++ text
 pending_text (Instruction target value ∷ before) = []
+pending_text (Comment text ∷ before) = []
 pending_text (Passed ∷ before) = pending_text before
 
 -- this character data begins a text node: it stands inside an element, isn't empty, and no nonempty text is pending
@@ -124,9 +148,10 @@ line_rows before (End name) = 0
 line_rows before (Attr name value) = if is_declaration name then 0 else 1
 line_rows before (Text text) = if begins_text before text then 1 else 0
 line_rows before (Instruction target value) = 1
+line_rows before (Comment text) = 1
 line_rows before Passed = 0
 
--- the rows so far, pending ones counted: the root, starts, attributes that aren't declarations, instructions, and nonempty runs of text inside elements
+-- the rows so far, pending ones counted: the root, starts, attributes that aren't declarations, instructions, comments, and nonempty runs of text inside elements
 abbrev pub row_count : List Line → ℕ
 row_count [] = 1
 row_count (line ∷ before) = row_count before + line_rows before line
@@ -138,6 +163,7 @@ line_bytes before (End name) = 0
 line_bytes before (Attr name value) = if is_declaration name then 0 else length value
 line_bytes before (Text text) = if depth before == 0 then 0 else length text
 line_bytes before (Instruction target value) = length value
+line_bytes before (Comment text) = length text
 line_bytes before Passed = 0
 
 -- the bytes of values so far, pending ones counted

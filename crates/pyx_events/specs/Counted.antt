@@ -3,18 +3,14 @@ use Rattle.std.specs.Prelude.{ℕ, ◌+◌, List, [], ◌∷◌, Bool, ◌&&◌,
 use Rattle.std.specs.List.{list_any}
 use Rattle.std.specs.Str.{bytes_eq}
 use Rattle.doc_model.specs.declared.row.Kind.{Kind}
-use Rattle.doc_model.specs.declared.row.Kind.TheVariants as kind
+use Rattle.doc_model.specs.Numbers.{kind_number}
 use Rattle.doc_model.specs.declared.row.Row.{Row}
 use Rattle.pyx_events.specs.declared.event.Event.{Event}
 use Rattle.pyx_events.specs.Nodes.{node_rows}
 
--- the kinds, numbered
-abbrev pub kind_number : Kind → ℕ
-kind_number kind.Root = 0
-kind_number kind.Element = 1
-kind_number kind.Attribute = 2
-kind_number kind.Text = 3
-kind_number kind.Instruction = 4
+-- a row of this kind has no name: a text or a comment
+abbrev pub is_nameless : Kind → Bool
+is_nameless kind = kind_number kind == 3 || kind_number kind == 5
 
 -- one expanded name: local name and URI (Namespaces in XML 1.0, section 2.1)
 abbrev pub same_expanded : Row → Row → Bool
@@ -24,10 +20,10 @@ same_expanded a b = bytes_eq a.local b.local && bytes_eq a.uri b.uri
 abbrev pub same_type : Row → Row → Bool
 same_type a b = kind_number a.kind == kind_number b.kind && same_expanded a b
 
--- one row of each type; texts have no name
+-- one row of each type; texts and comments have no name
 abbrev pub types : List Row → List Row
 types [] = []
-types (row ∷ rows) = if kind_number row.kind == 3 || list_any (same_type row) rows then types rows else row ∷ types rows
+types (row ∷ rows) = if is_nameless row.kind || list_any (same_type row) rows then types rows else row ∷ types rows
 
 -- each prefix once, the empty one left out
 abbrev pub prefixes : List Row → List (List ℕ)

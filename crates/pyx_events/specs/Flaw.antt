@@ -10,9 +10,8 @@ use Rattle.doc_model.specs.declared.flaw.FlawKind.TheVariants as kind
 use Rattle.doc_model.specs.Strip.{is_white}
 use Rattle.name_grammar.specs.Names.{prefix_of}
 use Rattle.pyx_lines.specs.declared.line.Line.{Line}
-use Rattle.pyx_lines.specs.declared.line.Line.TheVariants.{Start, End, Attr, Text, Instruction, Passed}
-use Rattle.pyx_lines.specs.declared.line_error.LineError.TheVariants.{NotUtf8, UnknownLine, NoSpace, BadName, Memory}
-use Rattle.pyx_lines.specs.Lines.{Refusal, TooManyLines, LongLine, Misspelled, judged_lines}
+use Rattle.pyx_lines.specs.declared.line.Line.TheVariants.{Start, End, Attr, Text, Instruction, Comment, Passed}
+use Rattle.pyx_lines.specs.Lines.{Refusal, TooManyLines, LongLine, NotUtf8, UnknownLine, NoSpace, BadName, judged_lines}
 use Rattle.xml_names.specs.declared.scopes.Binding.{Binding}
 use Rattle.pyx_events.specs.declared.pending_start.Attribute.{Attribute}
 use Rattle.pyx_events.specs.declared.pending_start.PendingStart.{PendingStart}
@@ -98,6 +97,9 @@ own_flaw limits names before (Instruction target value) =
     if row_count before == limits.rows then Some kind.TooManyNodes else
     if nat_lt limits.names names.count then Some kind.TooManyNames else
     if nat_lt limits.text (value_bytes before + names.bytes + length value) then Some kind.TooMuchText else None
+own_flaw limits names before (Comment text) =
+    if row_count before == limits.rows then Some kind.TooManyNodes else
+    if nat_lt limits.text (value_bytes before + names.bytes + length text) then Some kind.TooMuchText else None
 own_flaw limits names before Passed = None
 
 -- the flaw of the input's end itself
@@ -126,15 +128,14 @@ line_flaw limits free before line = in_order limits free before (completed_start
 abbrev pub end_flaw : Limits → Bool → List Line → Option Flaw
 end_flaw limits free before = in_order limits free before (pending_start before) (own_end_flaw before)
 
--- the kind of a line that is no event; no line is refused for want of memory
+-- the kind of a line that is no event
 abbrev pub kind_of : Refusal → FlawKind
 kind_of TooManyLines = kind.TooManyLines
 kind_of LongLine = kind.LongLine
-kind_of (Misspelled NotUtf8) = kind.NotUtf8
-kind_of (Misspelled UnknownLine) = kind.UnknownLine
-kind_of (Misspelled NoSpace) = kind.NoSpace
-kind_of (Misspelled BadName) = kind.BadName
-kind_of (Misspelled Memory) = kind.NotBuilt
+kind_of NotUtf8 = kind.NotUtf8
+kind_of UnknownLine = kind.UnknownLine
+kind_of NoSpace = kind.NoSpace
+kind_of BadName = kind.BadName
 
 -- the first flaw, or else the later one
 abbrev pub or_flaw : Option Flaw → Option Flaw → Option Flaw

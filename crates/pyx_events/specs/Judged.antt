@@ -1,5 +1,5 @@
 -- The flaw that is judged at each line of a source by itself, whatever came of the lines before.
-use Rattle.std.specs.Prelude.{◌≡◌, ℕ, ◌+◌, ◌<◌, ◌≤◌, List, [], ◌∷◌, Bool, length, take, reverse, slice_get, Option, Some, None, Result, Ok, Err}
+use Rattle.std.specs.Prelude.{◌≡◌, ℕ, ◌+◌, ◌<◌, ◌≤◌, ⊤, List, [], ◌∷◌, Bool, length, map, take, reverse, slice_get, Option, Some, None, Result, Ok, Err}
 use Rattle.std.specs.List.{flat_map}
 use Rattle.doc_model.specs.declared.limits.Limits.{Limits}
 use Rattle.doc_model.specs.declared.flaw.Flaw.{Flaw}
@@ -40,3 +40,19 @@ IsGood limits free lines = (k : ℕ) → k ≤ length lines → judged_at limits
 abbrev pub IsFirst : Limits → Bool → List (Result Line Refusal) → Option Flaw → Type 0
 IsFirst limits free lines None = IsGood limits free lines
 IsFirst limits free lines (Some flaw) = IsLeast limits free lines flaw
+
+-- none of these lines, given with the latest first, has a flaw after those before it
+abbrev pub AreFlawless : Limits → Bool → List Line → Type 0
+AreFlawless limits free [] = ⊤
+AreFlawless limits free (line ∷ before) = (line_flaw limits free before line ≡ None) × AreFlawless limits free before
+
+-- the lines in the order of their source, in which none of them is refused
+abbrev pub in_source : List Line → List (Result Line Refusal)
+in_source before = map (λ line. Ok line) (reverse before)
+
+-- a source of these lines has no flaw: each of them is a line without one, and so is the input's end
+pub record IsFlawless (limits : Limits) (free : Bool) (lines : List (Result Line Refusal)) : Type 0 where
+  pub before : List Line
+  pub all : lines ≡ in_source before
+  pub lines_good : AreFlawless limits free before
+  pub end_good : end_flaw limits free before ≡ None

@@ -8,3 +8,4 @@ pub mod Answer
 pub mod Standing
 pub mod Taken
 pub mod Checking
+pub mod Numbered

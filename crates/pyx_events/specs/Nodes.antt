@@ -1,19 +1,20 @@
 -- The nodes and ends that lines give. The lines before are given with the latest first.
-use Rattle.std.specs.Prelude.{ℕ, ◌+◌, List, [], ◌∷◌, ◌++◌, ◌==◌, if◌then◌else◌, length, Option, Some, None, unwrap_or}
+use Rattle.std.specs.Prelude.{ℕ, ◌+◌, List, [], ◌∷◌, ◌++◌, ◌==◌, if◌then◌else◌, length, map, Option, Some, None, unwrap_or}
 use Rattle.std.specs.List.{flat_map}
 use Rattle.std.specs.Option.{option_to_list}
 use Rattle.doc_model.specs.declared.row.Kind.TheVariants as kind
 use Rattle.doc_model.specs.declared.row.Row.{Row}
 use Rattle.name_grammar.specs.Names.{prefix_of, local_of}
 use Rattle.pyx_lines.specs.declared.line.Line.{Line}
-use Rattle.pyx_lines.specs.declared.line.Line.TheVariants.{Start, End, Attr, Text, Instruction, Passed}
+use Rattle.pyx_lines.specs.declared.line.Line.TheVariants.{Start, End, Attr, Text, Instruction, Comment, Passed}
+use Rattle.shared_texts.specs.Numbers.{number_in}
 use Rattle.xml_names.specs.declared.scopes.Binding.{Binding}
 use Rattle.xml_names.specs.Bindings.{unless_empty, uri_in}
 use Rattle.pyx_events.specs.declared.event.Event.{Event}
 use Rattle.pyx_events.specs.declared.event.Event.TheVariants.{Node, Shut}
 use Rattle.pyx_events.specs.declared.pending_start.Attribute.{Attribute}
 use Rattle.pyx_events.specs.declared.pending_start.PendingStart.{PendingStart}
-use Rattle.pyx_events.specs.Before.{depth, completed_start, pending_text, is_declaration, binding_of, bindings}
+use Rattle.pyx_events.specs.Before.{depth, completed_start, pending_text, is_declaration, binding_of, bindings, uris_to}
 
 -- what these bindings, the latest first, bind the prefix to: the innermost counts, and an empty URI binds to nothing
 abbrev pub resolve : List Binding → List ℕ → Option (List ℕ)
@@ -39,6 +40,9 @@ text_row depth text = record { kind = kind.Text; prefix = []; uri = []; local = 
 abbrev pub instruction_row : ℕ → List ℕ → List ℕ → Row
 instruction_row depth target value = record { kind = kind.Instruction; prefix = []; uri = []; local = target; value = value; depth = depth }
 
+abbrev pub comment_row : ℕ → List ℕ → Row
+comment_row depth text = record { kind = kind.Comment; prefix = []; uri = []; local = []; value = text; depth = depth }
+
 -- the rows of the attribute lines that aren't declarations, in line order
 abbrev pub attribute_rows : List Binding → ℕ → List Attribute → List Row
 attribute_rows bound depth lines = flat_map (λ it. if is_declaration it.name then [] else attribute_row bound depth it ∷ []) lines
@@ -47,22 +51,35 @@ attribute_rows bound depth lines = flat_map (λ it. if is_declaration it.name th
 abbrev pub declarations : List Attribute → List Binding
 declarations lines = flat_map (λ it. option_to_list (binding_of it.name it.value)) lines
 
--- the node of an element with these bindings in force, its own counted
-abbrev pub element_node : List Binding → ℕ → PendingStart → Event
-element_node bound depth start = Node (element_row bound depth start.name) (attribute_rows bound (depth + 1) start.attributes) (declarations start.attributes) start.line
+-- the numbers of the URIs of rows
+abbrev pub numbers_of : List (List ℕ) → List Row → List ℕ
+numbers_of uris rows = map (λ row. number_in uris row.uri) rows
+
+-- the node of a row and its attributes, with the numbers of their URIs among these
+abbrev pub numbered_node : List (List ℕ) → Row → List Row → List Binding → ℕ → Event
+numbered_node uris row attributes declared line = Node row attributes declared (numbers_of uris (row ∷ attributes)) line
+
+-- the node of an element with these URIs known and these bindings in force, its own counted
+abbrev pub element_node : List (List ℕ) → List Binding → ℕ → PendingStart → Event
+element_node uris bound depth start =
+    numbered_node uris (element_row bound depth start.name) (attribute_rows bound (depth + 1) start.attributes) (declarations start.attributes) start.line
+
+-- the node of a row without a URI, which has number 0
+abbrev pub plain_node : Row → ℕ → Event
+plain_node row line = Node row [] [] (0 ∷ []) line
 
 -- the node of a start, if there is one
-abbrev pub start_node : List Binding → ℕ → Option PendingStart → List Event
-start_node bound depth None = []
-start_node bound depth (Some start) = element_node bound depth start ∷ []
+abbrev pub start_node : List (List ℕ) → List Binding → ℕ → Option PendingStart → List Event
+start_node uris bound depth None = []
+start_node uris bound depth (Some start) = element_node uris bound depth start ∷ []
 
 -- the node of a start that is completed after these lines
 abbrev pub completed : List Line → Option PendingStart → List Event
-completed before start = start_node (bindings 0 before) (depth before) start
+completed before start = start_node (uris_to before) (bindings 0 before) (depth before) start
 
 -- the node of a text that ends at this line; an empty text makes none
 abbrev pub text_node : ℕ → List ℕ → ℕ → List Event
-text_node depth text line = if length text == 0 then [] else Node (text_row depth text) [] [] line ∷ []
+text_node depth text line = if length text == 0 then [] else plain_node (text_row depth text) line ∷ []
 
 -- the node of the text that the next line ends
 abbrev pub ended_text : List Line → List Event
@@ -74,7 +91,8 @@ own_events before (Start name) = ended_text before
 own_events before (End name) = ended_text before ++ Shut ∷ []
 own_events before (Attr name value) = []
 own_events before (Text text) = []
-own_events before (Instruction target value) = ended_text before ++ Node (instruction_row (depth before + 1) target value) [] [] (length before + 1) ∷ []
+own_events before (Instruction target value) = ended_text before ++ plain_node (instruction_row (depth before + 1) target value) (length before + 1) ∷ []
+own_events before (Comment text) = ended_text before ++ plain_node (comment_row (depth before + 1) text) (length before + 1) ∷ []
 own_events before Passed = []
 
 -- what the line gives
@@ -88,7 +106,7 @@ events_to (line ∷ before) = events_to before ++ line_events before line
 
 -- the rows that an event gives, and those of events
 abbrev pub event_rows : Event → List Row
-event_rows (Node row attributes declarations line) = row ∷ attributes
+event_rows (Node row attributes declarations uris line) = row ∷ attributes
 event_rows Shut = []
 
 abbrev pub node_rows : List Event → List Row

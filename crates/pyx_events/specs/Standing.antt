@@ -5,7 +5,7 @@ use Rattle.pyx_lines.specs.declared.line.Line.{Line}
 use Rattle.xml_names.specs.declared.scopes.Binding.{Binding}
 use Rattle.xml_names.specs.Bindings.{all_bindings, bound_in}
 use Rattle.pyx_events.specs.declared.nesting.Nesting.{Nesting}
-use Rattle.pyx_events.specs.Before.{innermost, is_start, is_end, bindings, has_root, row_count, value_bytes}
+use Rattle.pyx_events.specs.Before.{innermost, is_start, is_end, bindings, uris_to, has_root, row_count, value_bytes}
 
 -- the scopes with one more binding, if there is one
 abbrev pub with_binding : Option Binding → List (List Binding) → List (List Binding)
@@ -18,8 +18,9 @@ pub record IsNested (given : Limits) (nesting : Nesting) (before : List Line) : 
   pub names : (k : ℕ) → innermost k before ≡ slice_get (reverse nesting.open_names) k
   pub deep : length nesting.open_names + count_by is_end before ≡ count_by is_start before
   pub shallow : length nesting.open_names ≤ 1000
-  pub bound : (k : ℕ) → bindings k before ≡ all_bindings (drop k nesting.scopes)
-  pub scoped : length nesting.scopes ≡ length nesting.open_names + 1
+  pub bound : (k : ℕ) → bindings k before ≡ all_bindings (drop k nesting.scopes.scopes)
+  pub uris : nesting.scopes.uris ≡ uris_to before
+  pub scoped : length nesting.scopes.scopes ≡ length nesting.open_names + 1
   pub rooted : nesting.rooted ≡ has_root before
   pub lines : nesting.lines ≡ length before
   pub rows : nesting.rows ≡ row_count before

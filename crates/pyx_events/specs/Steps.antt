@@ -14,7 +14,7 @@ use Rattle.pyx_events.specs.Flaw.{line_flaw, end_flaw, kind_of}
 
 -- the step that an event gives
 abbrev pub step_of : Event → Step
-step_of (Node row attributes declarations line) = step.Node row attributes
+step_of (Node row attributes declarations uris line) = step.Node row attributes
 step_of Shut = step.Shut
 
 abbrev pub steps_of_events : List Event → List Step

@@ -43,9 +43,10 @@ impl Checker {
         })
     }
 
-    /// Judges the next line, and gives its events. Costs in the order of the line's bytes, and where the
-    /// line completes a start, of that element's attribute lines and of the URIs of their names. A
-    /// refusal is given for good, from then on without a node.
+    /// Judges the next line, and gives its events. Costs in the order of the line's bytes, where the line
+    /// completes a start also of that element's attribute lines and the square of their count, and of the
+    /// logarithm of what is in scope, however long the URIs are. A refusal is given for good, from then on
+    /// without a node.
     pub fn line(&mut self, alloc: Global, line: Line) -> Result<Events, EventError>
         requires { HasRoom 4294967295 self.old }
         ensures answer { (limits : Limits) (before : List Line) → Stands limits self.old before → IsAnswer limits before line result }

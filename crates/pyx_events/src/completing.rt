@@ -22,7 +22,7 @@ pub fn completes(line: &Line) -> bool
 {
     match line {
         Line::Start(_) | Line::End(_) | Line::Text(_) => true,
-        Line::Instruction { .. } => true,
+        Line::Instruction { .. } | Line::Comment(_) => true,
         Line::Attr { .. } | Line::Passed => false,
     }
 }
@@ -42,9 +42,9 @@ pub fn complete(
     start: Option<PendingStart>,
 ) -> Result<Events, EventError>
     requires { length nesting.now.open_names ≤ 1000 }
-    ensures node { IfOk result (λ events. events ≡ start_node (all_bindings nesting.now.scopes) (length nesting.now.open_names) start) }
-    ensures good { OnOk result (start_flaw (all_bindings nesting.now.scopes) (length nesting.now.open_names) start ≡ None) }
-    ensures refused { IfErr result (λ error. IfSome (flaw_in error) (λ flaw. at_line (start_line start) (start_flaw (all_bindings nesting.now.scopes) (length nesting.now.open_names) start) None ≡ Some flaw)) }
+    ensures node { IfOk result (λ events. events ≡ start_node nesting.now.scopes.uris (all_bindings nesting.now.scopes.scopes) (length nesting.now.open_names) start) }
+    ensures good { OnOk result (start_flaw (all_bindings nesting.now.scopes.scopes) (length nesting.now.open_names) start ≡ None) }
+    ensures refused { IfErr result (λ error. IfSome (flaw_in error) (λ flaw. at_line (start_line start) (start_flaw (all_bindings nesting.now.scopes.scopes) (length nesting.now.open_names) start) None ≡ Some flaw)) }
     ensures empty { IfErr result (λ error. IfSome (completed_in error) (λ events. events ≡ [])) }
 {
     match start {

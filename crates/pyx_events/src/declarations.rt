@@ -1,13 +1,14 @@
 // What attribute lines declare (Namespaces in XML 1.0, section 3).
 ghost use Rattle.std.specs.Prelude.{◌≡◌, IfOk, OnOk, option_map};
 ghost use Rattle.xml_names.specs.Bindings.{is_fixed};
-ghost use Rattle.pyx_events.specs.Before.{declared_prefix, is_declaration, binding_of};
+ghost use Rattle.pyx_events.specs.Before.{declared_prefix, is_declaration, binding_of, with_uri};
 ghost use Rattle.pyx_events.specs.Nodes.{declarations};
 ghost use Rattle.pyx_events.specs.Standing.{with_binding};
 
 use crate::pending_start::Attribute;
 use lists::List;
 use name_grammar::{local, prefix};
+use shared_texts::Shared;
 use std::alloc::{AllocError, Global};
 use xml_names::{Binding, Scopes};
 
@@ -51,7 +52,7 @@ fn binding_of(alloc: Global, name: &[u8], value: &[u8]) -> Result<Option<Binding
             }
             Ok(Some(Binding {
                 prefix: List::from_slice(alloc, prefix)?,
-                uri: List::from_slice(alloc, value)?,
+                uri: Shared::from_slice(alloc, value)?,
             }))
         }
         None => Ok(None),
@@ -78,7 +79,8 @@ pub fn declare(
     name: &[u8],
     value: &[u8],
 ) -> Result<(), AllocError>
-    ensures { OnOk result (scopes.new ≡ with_binding (binding_of name.now value.now) scopes.old) }
+    ensures bound { OnOk result (scopes.new.scopes ≡ with_binding (binding_of name.now value.now) scopes.old.scopes) }
+    ensures uris { OnOk result (scopes.new.uris ≡ with_uri (binding_of name.now value.now) scopes.old.uris) }
 {
     match declared_prefix(name) {
         Some(prefix) => {

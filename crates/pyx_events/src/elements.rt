@@ -1,11 +1,14 @@
 // Elements with their attributes: their nodes and their flaws.
-ghost use Rattle.std.specs.Prelude.{◌≡◌, ◌+◌, ◌≤◌, ◌∷◌, [], Some, None, IfOk, OnOk, IfErr, IfSome};
+ghost use Rattle.std.specs.Prelude.{◌≡◌, ◌+◌, ◌≤◌, ◌∷◌, [], Some, None, false, IsTrue, IfOk, OnOk, IfErr, IfSome, slice_get};
 ghost use Rattle.std.specs.List.{list_any};
 ghost use Rattle.xml_names.specs.Bindings.{all_bindings};
-ghost use Rattle.pyx_events.specs.Nodes.{uri_of, attribute_uri, attribute_row, attribute_rows, element_row, element_node};
+ghost use Rattle.pyx_events.specs.Nodes.{uri_of, attribute_uri, attribute_row, attribute_rows, element_row, element_node, numbered_node};
+ghost use Rattle.pyx_events.specs.Numbered.{AreNumbered};
 ghost use Rattle.pyx_events.specs.Counted.{same_expanded};
 ghost use Rattle.pyx_events.specs.Flaw.{is_unbound, attribute_unbound, repeats, element_flaw};
 ghost use Rattle.pyx_events.specs.Answer.{kind_in};
+ghost use Rattle.doc_model.specs.declared.flaw.FlawKind.TheVariants.{UnboundPrefix};
+ghost use Rattle.name_grammar.specs.Names.{prefix_of};
 
 use crate::declarations::{declarations, is_declaration};
 use crate::event::{Event, Events};
@@ -13,8 +16,9 @@ use crate::pending_start::{Attribute, PendingStart};
 use doc_model::{FlawKind, Kind, Row};
 use lists::List;
 use name_grammar::{local, prefix};
+use shared_texts::{NumberedText, Shared};
 use std::alloc::{AllocError, Global};
-use xml_names::Scopes;
+use xml_names::{Binding, Scopes};
 
 /// Why a start isn't completed.
 #[derive(Clone, Copy, Debug, PartialEq, Eq)]
@@ -34,22 +38,58 @@ impl From<AllocError> for StartError {
     }
 }
 
-fn uri_of(alloc: Global, scopes: &Scopes, prefix: &[u8]) -> Result<List<u8>, AllocError>
-    ensures { IfOk result (λ uri. uri ≡ uri_of (all_bindings scopes.now) prefix.now) }
+/// A row with the number of its URI.
+#[derive(Drop)]
+pub struct NumberedRow {
+    pub row: Row,
+    pub number: u32,
+}
+
+/// Rows with the numbers of their URIs.
+#[derive(Drop)]
+pub struct NumberedRows {
+    pub rows: List<Row>,
+    pub numbers: List<u32>,
+}
+
+fn no_uri(scopes: &Scopes) -> NumberedText
+    ensures text { result.text ≡ [] }
+    ensures number { slice_get scopes.now.uris result.number ≡ Some result.text }
 {
-    match scopes.resolve(prefix) {
-        Some(uri) => List::from_slice(alloc, uri),
-        None => Ok(List::new(alloc)),
+    scopes.numbers_tell_uris();
+    NumberedText {
+        number: 0,
+        text: Shared::empty(),
     }
 }
 
-fn attribute_uri(alloc: Global, scopes: &Scopes, prefix: &[u8]) -> Result<List<u8>, AllocError>
-    ensures { IfOk result (λ uri. uri ≡ attribute_uri (all_bindings scopes.now) prefix.now) }
+// The URI of a name's prefix, by one look-up; a prefix that isn't empty has to be bound.
+fn uri_of(scopes: &Scopes, prefix: &[u8]) -> Result<NumberedText, StartError>
+    ensures text { IfOk result (λ it. it.text ≡ uri_of (all_bindings scopes.now.scopes) prefix.now) }
+    ensures number { IfOk result (λ it. slice_get scopes.now.uris it.number ≡ Some it.text) }
+    ensures good { OnOk result (is_unbound (all_bindings scopes.now.scopes) prefix.now ≡ false) }
+    ensures flawed { IfErr result (λ error. IfSome (kind_in error) (λ kind. (kind ≡ UnboundPrefix) × IsTrue (is_unbound (all_bindings scopes.now.scopes) prefix.now))) }
+{
+    match scopes.find(prefix) {
+        Some(found) => Ok(NumberedText {
+            number: found.number,
+            text: found.uri.share()?,
+        }),
+        None if prefix.is_empty() => Ok(no_uri(scopes)),
+        None => Err(StartError::Flawed(FlawKind::UnboundPrefix)),
+    }
+}
+
+fn attribute_uri(scopes: &Scopes, prefix: &[u8]) -> Result<NumberedText, StartError>
+    ensures text { IfOk result (λ it. it.text ≡ attribute_uri (all_bindings scopes.now.scopes) prefix.now) }
+    ensures number { IfOk result (λ it. slice_get scopes.now.uris it.number ≡ Some it.text) }
+    ensures good { OnOk result (is_unbound (all_bindings scopes.now.scopes) prefix.now ≡ false) }
+    ensures flawed { IfErr result (λ error. IfSome (kind_in error) (λ kind. (kind ≡ UnboundPrefix) × IsTrue (is_unbound (all_bindings scopes.now.scopes) prefix.now))) }
 {
     if prefix.is_empty() {
-        Ok(List::new(alloc))
+        Ok(no_uri(scopes))
     } else {
-        uri_of(alloc, scopes, prefix)
+        uri_of(scopes, prefix)
     }
 }
 
@@ -58,96 +98,152 @@ fn attribute_row(
     scopes: &Scopes,
     depth: u32,
     it: Attribute,
-) -> Result<Row, AllocError>
-    ensures { IfOk result (λ row. row ≡ attribute_row (all_bindings scopes.now) depth it) }
+) -> Result<NumberedRow, StartError>
+    ensures row { IfOk result (λ made. made.row ≡ attribute_row (all_bindings scopes.now.scopes) depth it) }
+    ensures number { IfOk result (λ made. slice_get scopes.now.uris made.number ≡ Some made.row.uri) }
+    ensures good { OnOk result (is_unbound (all_bindings scopes.now.scopes) (prefix_of it.name) ≡ false) }
+    ensures flawed { IfErr result (λ error. IfSome (kind_in error) (λ kind. (kind ≡ UnboundPrefix) × IsTrue (is_unbound (all_bindings scopes.now.scopes) (prefix_of it.name)))) }
 {
     let Attribute { name, value } = it;
-    Ok(Row {
-        kind: Kind::Attribute,
-        prefix: List::from_slice(alloc, prefix(name.as_slice()))?,
-        uri: attribute_uri(alloc, scopes, prefix(name.as_slice()))?,
-        local: List::from_slice(alloc, local(name.as_slice()))?,
-        value,
-        depth,
+    let NumberedText { number, text } = attribute_uri(scopes, prefix(name.as_slice()))?;
+    Ok(NumberedRow {
+        row: Row {
+            kind: Kind::Attribute,
+            prefix: List::from_slice(alloc, prefix(name.as_slice()))?,
+            uri: text,
+            local: List::from_slice(alloc, local(name.as_slice()))?,
+            value,
+            depth,
+        },
+        number,
     })
 }
 
+// The rows of the attribute lines that declare nothing.
 fn attribute_rows(
     alloc: Global,
     scopes: &Scopes,
     depth: u32,
     lines: List<Attribute>,
-) -> Result<List<Row>, AllocError>
-    ensures { IfOk result (λ rows. rows ≡ attribute_rows (all_bindings scopes.now) depth lines) }
+) -> Result<NumberedRows, StartError>
+    ensures rows { IfOk result (λ it. it.rows ≡ attribute_rows (all_bindings scopes.now.scopes) depth lines) }
+    ensures numbers { IfOk result (λ it. AreNumbered scopes.now.uris it.rows it.numbers) }
+    ensures good { OnOk result (list_any (attribute_unbound (all_bindings scopes.now.scopes)) lines ≡ false) }
+    ensures flawed { IfErr result (λ error. IfSome (kind_in error) (λ kind. (kind ≡ UnboundPrefix) × IsTrue (list_any (attribute_unbound (all_bindings scopes.now.scopes)) lines))) }
 {
     let mut rows = List::new(alloc);
+    let mut numbers = List::new(alloc);
     for it in lines.into_vec() {
         if !is_declaration(it.name.as_slice()) {
-            rows.push(attribute_row(alloc, scopes, depth, it)?)?;
+            let NumberedRow { row, number } = attribute_row(alloc, scopes, depth, it)?;
+            rows.push(row)?;
+            numbers.push(number)?;
         }
     }
-    Ok(rows)
+    Ok(NumberedRows { rows, numbers })
 }
 
-fn element_row(alloc: Global, scopes: &Scopes, depth: u32, name: &[u8]) -> Result<Row, AllocError>
-    ensures { IfOk result (λ row. row ≡ element_row (all_bindings scopes.now) depth name.now) }
+fn element_row(
+    alloc: Global,
+    scopes: &Scopes,
+    depth: u32,
+    name: &[u8],
+) -> Result<NumberedRow, StartError>
+    ensures row { IfOk result (λ made. made.row ≡ element_row (all_bindings scopes.now.scopes) depth name.now) }
+    ensures number { IfOk result (λ made. slice_get scopes.now.uris made.number ≡ Some made.row.uri) }
+    ensures good { OnOk result (is_unbound (all_bindings scopes.now.scopes) (prefix_of name.now) ≡ false) }
+    ensures flawed { IfErr result (λ error. IfSome (kind_in error) (λ kind. (kind ≡ UnboundPrefix) × IsTrue (is_unbound (all_bindings scopes.now.scopes) (prefix_of name.now)))) }
 {
-    Ok(Row {
-        kind: Kind::Element,
-        prefix: List::from_slice(alloc, prefix(name))?,
-        uri: uri_of(alloc, scopes, prefix(name))?,
-        local: List::from_slice(alloc, local(name))?,
-        value: List::new(alloc),
-        depth,
+    let NumberedText { number, text } = uri_of(scopes, prefix(name))?;
+    Ok(NumberedRow {
+        row: Row {
+            kind: Kind::Element,
+            prefix: List::from_slice(alloc, prefix(name))?,
+            uri: text,
+            local: List::from_slice(alloc, local(name))?,
+            value: List::new(alloc),
+            depth,
+        },
+        number,
     })
 }
 
-fn is_unbound(scopes: &Scopes, prefix: &[u8]) -> bool
-    ensures { result ≡ is_unbound (all_bindings scopes.now) prefix.now }
-{
-    !prefix.is_empty() && scopes.resolve(prefix).is_none()
-}
-
-fn attribute_unbound(scopes: &Scopes, it: &Attribute) -> bool
-    ensures { result ≡ attribute_unbound (all_bindings scopes.now) it.now }
-{
-    !is_declaration(it.name.as_slice()) && is_unbound(scopes, prefix(it.name.as_slice()))
-}
-
-fn any_unbound(scopes: &Scopes, lines: &[Attribute]) -> bool
-    ensures { result ≡ list_any (attribute_unbound (all_bindings scopes.now)) lines.now }
-{
-    lines.iter().any(|it| attribute_unbound(scopes, it))
-}
-
-// Local names differ more often, and a source can make URIs long.
-fn same_expanded(row: &Row, other: &Row) -> bool
+// Compares no byte of a URI.
+#[tactic(auto, using(crate::proofs::Numbered::told_by_numbers))]
+fn same_expanded(scopes: &Scopes, row: &Row, number: u32, other: &Row, other_number: u32) -> bool
+    requires row { slice_get scopes.now.uris number ≡ Some row.now.uri }
+    requires other { slice_get scopes.now.uris other_number ≡ Some other.now.uri }
     ensures { result ≡ same_expanded row.now other.now }
 {
-    row.local.as_slice() == other.local.as_slice() && row.uri.as_slice() == other.uri.as_slice()
+    scopes.numbers_tell_uris();
+    number == other_number && row.local.as_slice() == other.local.as_slice()
 }
 
-fn has_expanded(row: &Row, rows: &[Row]) -> bool
+#[tactic(auto, using(crate::proofs::Numbered::as_many, crate::proofs::Numbered::numbered_at))]
+fn has_expanded(scopes: &Scopes, row: &Row, number: u32, rows: &[Row], numbers: &[u32]) -> bool
+    requires row { slice_get scopes.now.uris number ≡ Some row.now.uri }
+    requires rows { AreNumbered scopes.now.uris rows.now numbers.now }
     ensures { result ≡ list_any (same_expanded row.now) rows.now }
 {
-    rows.iter().any(|other| same_expanded(row, other))
-}
-
-// Whether two rows have one expanded name. An element has at most 256 attribute lines, so this makes at
-// most 128 comparisons for each of them.
-fn repeats(rows: &[Row]) -> bool
-    ensures { result ≡ repeats rows.now }
-{
     for i in 0..rows.len() {
-        if has_expanded(&rows[i], &rows[i + 1..]) {
+        if same_expanded(scopes, row, number, &rows[i], numbers[i]) {
             return true;
         }
     }
     false
 }
 
-/// The node of an element, or its flaw, names aside. Costs in the order of the bytes of its lines and of
-/// the URIs of their names, and of the square of its attributes.
+// Whether two rows have one expanded name. An element has at most 256 attribute lines, so this makes at
+// most 128 comparisons for each of them, of numbers unless the URIs are the same.
+#[tactic(auto, using(crate::proofs::Numbered::as_many, crate::proofs::Numbered::numbered_at, crate::proofs::Numbered::numbered_from))]
+fn repeats(scopes: &Scopes, rows: &[Row], numbers: &[u32]) -> bool
+    requires { AreNumbered scopes.now.uris rows.now numbers.now }
+    ensures { result ≡ repeats rows.now }
+{
+    for i in 0..rows.len() {
+        if has_expanded(
+            scopes,
+            &rows[i],
+            numbers[i],
+            &rows[i + 1..],
+            &numbers[i + 1..],
+        ) {
+            return true;
+        }
+    }
+    false
+}
+
+// The node of an element's row and attributes.
+fn element_node(
+    alloc: Global,
+    scopes: &Scopes,
+    element: NumberedRow,
+    attributes: NumberedRows,
+    declarations: List<Binding>,
+    line: u64,
+) -> Result<Event, AllocError>
+    requires row { slice_get scopes.now.uris element.number ≡ Some element.row.uri }
+    requires rows { AreNumbered scopes.now.uris attributes.rows attributes.numbers }
+    ensures { IfOk result (λ event. event ≡ numbered_node scopes.now.uris element.row attributes.rows declarations line) }
+{
+    scopes.numbers_tell_uris();
+    let NumberedRow { row, number } = element;
+    let NumberedRows { rows, numbers } = attributes;
+    let mut uris = List::new(alloc);
+    uris.push(number)?;
+    uris.append(numbers)?;
+    Ok(Event::Node {
+        row,
+        attributes: rows,
+        declarations,
+        uris,
+        line,
+    })
+}
+
+/// The node of an element, or its flaw, names aside. Costs in the order of the bytes of its lines, of
+/// the logarithm of what is in scope and of the square of its attributes.
 pub fn element_events(
     alloc: Global,
     scopes: &Scopes,
@@ -155,33 +251,26 @@ pub fn element_events(
     start: PendingStart,
 ) -> Result<Events, StartError>
     requires { depth ≤ 1000 }
-    ensures node { IfOk result (λ events. events ≡ element_node (all_bindings scopes.now) depth start ∷ []) }
-    ensures good { OnOk result (element_flaw (all_bindings scopes.now) depth start ≡ None) }
-    ensures flawed { IfErr result (λ error. IfSome (kind_in error) (λ kind. element_flaw (all_bindings scopes.now) depth start ≡ Some kind)) }
+    ensures node { IfOk result (λ events. events ≡ element_node scopes.now.uris (all_bindings scopes.now.scopes) depth start ∷ []) }
+    ensures good { OnOk result (element_flaw (all_bindings scopes.now.scopes) depth start ≡ None) }
+    ensures flawed { IfErr result (λ error. IfSome (kind_in error) (λ kind. element_flaw (all_bindings scopes.now.scopes) depth start ≡ Some kind)) }
 {
     let PendingStart {
         name,
         line,
         attributes: lines,
     } = start;
-    if is_unbound(scopes, prefix(name.as_slice())) {
-        return Err(StartError::Flawed(FlawKind::UnboundPrefix));
-    }
-    if any_unbound(scopes, lines.as_slice()) {
-        return Err(StartError::Flawed(FlawKind::UnboundPrefix));
-    }
-    let row = element_row(alloc, scopes, depth, name.as_slice())?;
+    let element = element_row(alloc, scopes, depth, name.as_slice())?;
     let declarations = declarations(alloc, lines.as_slice())?;
     let attributes = attribute_rows(alloc, scopes, depth + 1, lines)?;
-    if repeats(attributes.as_slice()) {
+    if repeats(
+        scopes,
+        attributes.rows.as_slice(),
+        attributes.numbers.as_slice(),
+    ) {
         return Err(StartError::Flawed(FlawKind::DuplicateAttr));
     }
     let mut events = List::new(alloc);
-    events.push(Event::Node {
-        row,
-        attributes,
-        declarations,
-        line,
-    })?;
+    events.push(element_node(alloc, scopes, element, attributes, declarations, line)?)?;
     Ok(events)
 }

@@ -4,7 +4,7 @@ ghost use Rattle.std.specs.List.{list_all};
 ghost use Rattle.doc_model.specs.declared.limits.Limits.{Limits};
 ghost use Rattle.doc_model.specs.Strip.{is_white};
 ghost use Rattle.pyx_lines.specs.declared.line.Line.{Line};
-ghost use Rattle.pyx_lines.specs.declared.line.Line.TheVariants.{Start, End, Attr, Text, Instruction};
+ghost use Rattle.pyx_lines.specs.declared.line.Line.TheVariants.{Start, End, Attr, Text, Instruction, Comment};
 ghost use Rattle.pyx_events.specs.Before.{pending_start, pending_text};
 ghost use Rattle.pyx_events.specs.Counted.{free_names};
 ghost use Rattle.pyx_events.specs.Flaw.{own_flaw, own_end_flaw, is_named};
@@ -101,6 +101,19 @@ impl Nesting {
         if self.rows == self.limits.rows {
             Some(FlawKind::TooManyNodes)
         } else if self.is_too_much(value) {
+            Some(FlawKind::TooMuchText)
+        } else {
+            None
+        }
+    }
+
+    pub fn judge_comment(&self, text: &[u8]) -> Option<FlawKind>
+        requires { self.now.bytes ≤ self.now.limits.text }
+        ensures { (limits : Limits) (before : List Line) → IsNested limits self.now before → result ≡ own_flaw limits free_names before (Comment text.now) }
+    {
+        if self.rows == self.limits.rows {
+            Some(FlawKind::TooManyNodes)
+        } else if self.is_too_much(text) {
             Some(FlawKind::TooMuchText)
         } else {
             None

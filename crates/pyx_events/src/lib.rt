@@ -20,7 +20,7 @@ pub use checker::Checker;
 pub use doc_model::Limits;
 pub use event::{Event, Events};
 pub use event_error::EventError;
-pub use laws::first_flaw_is_judged_at_the_least_line;
-
-#[cfg(test)]
-mod tests;
+pub use laws::{
+    a_source_without_a_flaw_has_flawless_lines, first_flaw_is_judged_at_the_least_line,
+    flawless_lines_begin_a_source,
+};

@@ -1,7 +1,7 @@
 ghost use Rattle.std.specs.Prelude.{◌≡◌, ◌+◌, ◌≤◌, ◌<◌, ◌==◌, ◌&&◌, not, [], ◌∷◌, ℕ, List, None, IfOk, OnOk, length, if◌then◌else◌};
 ghost use Rattle.doc_model.specs.declared.limits.Limits.{Limits};
 ghost use Rattle.pyx_lines.specs.declared.line.Line.{Line};
-ghost use Rattle.pyx_lines.specs.declared.line.Line.TheVariants.{Start, End, Attr, Text, Instruction, Passed};
+ghost use Rattle.pyx_lines.specs.declared.line.Line.TheVariants.{Start, End, Attr, Text, Instruction, Comment, Passed};
 ghost use Rattle.pyx_events.specs.Before.{is_declaration, pending_text};
 ghost use Rattle.pyx_events.specs.Counted.{free_names};
 ghost use Rattle.pyx_events.specs.Flaw.{own_flaw};
@@ -142,6 +142,16 @@ impl Nesting {
     {
         self.rows += 1;
         self.bytes += value.len() as u64;
+        self.lines += 1;
+    }
+
+    /// Takes a comment that has no flaw.
+    pub fn take_comment(&mut self, text: &[u8])
+        requires { (before : List Line) × IsNested self.old.limits self.old before × (own_flaw self.old.limits free_names before (Comment text.now) ≡ None) × (length before < 4294967295) }
+        ensures { (limits : Limits) (before : List Line) → IsNested limits self.old before → own_flaw limits free_names before (Comment text.now) ≡ None → IsNested limits self.new (Comment text.now ∷ before) }
+    {
+        self.rows += 1;
+        self.bytes += text.len() as u64;
         self.lines += 1;
     }
 

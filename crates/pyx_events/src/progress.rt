@@ -1,7 +1,7 @@
 ghost use Rattle.std.specs.Prelude.{◌≡◌, ◌+◌, ◌≤◌, ◌<◌, ◌++◌, ◌∷◌, [], List, IfOk, OnOk, length, if◌then◌else◌};
 ghost use Rattle.doc_model.specs.declared.limits.Limits.{Limits};
 ghost use Rattle.pyx_lines.specs.declared.line.Line.{Line};
-ghost use Rattle.pyx_lines.specs.declared.line.Line.TheVariants.{Start, End, Attr, Text, Instruction, Passed};
+ghost use Rattle.pyx_lines.specs.declared.line.Line.TheVariants.{Start, End, Attr, Text, Instruction, Comment, Passed};
 ghost use Rattle.pyx_events.specs.declared.event.Event.TheVariants.{Shut};
 ghost use Rattle.pyx_events.specs.Before.{with_attribute};
 ghost use Rattle.pyx_events.specs.Counted.{free_names};
@@ -12,7 +12,7 @@ ghost use Rattle.pyx_events.specs.Taken.{HasTaken, IsReady, MayTake};
 use crate::event::{Event, Events};
 use crate::nesting::Nesting;
 use crate::pending_start::{Attribute, PendingStart};
-use crate::texts::{with_instruction, with_text};
+use crate::texts::{with_comment, with_instruction, with_text};
 use doc_model::{FlawKind, Limits};
 use lists::List;
 use pyx_lines::Line;
@@ -58,6 +58,7 @@ impl Progress {
             Line::Instruction { target: _, value } => {
                 self.nesting.judge_instruction(value.as_slice())
             }
+            Line::Comment(text) => self.nesting.judge_comment(text.as_slice()),
             Line::Passed => None,
         }
     }
@@ -142,6 +143,23 @@ impl Progress {
         with_instruction(alloc, events, depth, target, value, line)
     }
 
+    fn take_comment(
+        &mut self,
+        alloc: Global,
+        node: Events,
+        text: List<u8>,
+    ) -> Result<Events, AllocError>
+        requires { MayTake self.old (Comment text) }
+        ensures events { (limits : Limits) (before : List Line) → IsReady limits self.old before (Comment text) → IfOk result (λ events. events ≡ node ++ own_events before (Comment text)) }
+        ensures taken { (limits : Limits) (before : List Line) → IsReady limits self.old before (Comment text) → own_flaw limits free_names before (Comment text) ≡ None → OnOk result (HasTaken limits self.new (Comment text ∷ before)) }
+    {
+        let events = end_text(alloc, &self.nesting, &mut self.text, node)?;
+        let depth = self.nesting.depth() + 1;
+        let line = self.nesting.lines + 1;
+        self.nesting.take_comment(text.as_slice());
+        with_comment(alloc, events, depth, text, line)
+    }
+
     fn take_passed(&mut self, node: Events) -> Events
         requires { MayTake self.old Passed }
         ensures events { result ≡ node }
@@ -165,6 +183,7 @@ impl Progress {
             Line::Instruction { target, value } => {
                 self.take_instruction(alloc, node, target, value)
             }
+            Line::Comment(text) => self.take_comment(alloc, node, text),
             Line::Passed => Ok(self.take_passed(node)),
         }
     }

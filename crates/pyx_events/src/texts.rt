@@ -1,11 +1,11 @@
-// The nodes of texts and instructions.
+// The nodes of texts, instructions and comments.
 ghost use Rattle.std.specs.Prelude.{◌≡◌, ◌++◌, ◌∷◌, [], IfOk};
-ghost use Rattle.pyx_events.specs.declared.event.Event.TheVariants.{Node};
-ghost use Rattle.pyx_events.specs.Nodes.{text_node, instruction_row};
+ghost use Rattle.pyx_events.specs.Nodes.{text_node, instruction_row, comment_row, plain_node};
 
 use crate::event::{Event, Events};
 use doc_model::{Kind, Row};
 use lists::List;
+use shared_texts::Shared;
 use std::alloc::{AllocError, Global};
 
 /// Adds the node of a text; an empty text makes none.
@@ -26,13 +26,14 @@ pub fn with_text(
         row: Row {
             kind: Kind::Text,
             prefix: List::new(alloc),
-            uri: List::new(alloc),
+            uri: Shared::empty(),
             local: List::new(alloc),
             value: text,
             depth,
         },
         attributes: List::new(alloc),
         declarations: List::new(alloc),
+        uris: no_uri(alloc)?,
         line,
     })?;
     Ok(all)
@@ -47,21 +48,59 @@ pub fn with_instruction(
     value: List<u8>,
     line: u64,
 ) -> Result<Events, AllocError>
-    ensures { IfOk result (λ all. all ≡ events ++ Node (instruction_row depth target value) [] [] line ∷ []) }
+    ensures { IfOk result (λ all. all ≡ events ++ plain_node (instruction_row depth target value) line ∷ []) }
 {
     let mut all = events;
     all.push(Event::Node {
         row: Row {
             kind: Kind::Instruction,
             prefix: List::new(alloc),
-            uri: List::new(alloc),
+            uri: Shared::empty(),
             local: target,
             value,
             depth,
         },
         attributes: List::new(alloc),
         declarations: List::new(alloc),
+        uris: no_uri(alloc)?,
         line,
     })?;
     Ok(all)
+}
+
+/// Adds the node of a comment.
+pub fn with_comment(
+    alloc: Global,
+    events: Events,
+    depth: u32,
+    text: List<u8>,
+    line: u64,
+) -> Result<Events, AllocError>
+    ensures { IfOk result (λ all. all ≡ events ++ plain_node (comment_row depth text) line ∷ []) }
+{
+    let mut all = events;
+    all.push(Event::Node {
+        row: Row {
+            kind: Kind::Comment,
+            prefix: List::new(alloc),
+            uri: Shared::empty(),
+            local: List::new(alloc),
+            value: text,
+            depth,
+        },
+        attributes: List::new(alloc),
+        declarations: List::new(alloc),
+        uris: no_uri(alloc)?,
+        line,
+    })?;
+    Ok(all)
+}
+
+// The number of the empty URI.
+fn no_uri(alloc: Global) -> Result<List<u32>, AllocError>
+    ensures { IfOk result (λ uris. uris ≡ 0 ∷ []) }
+{
+    let mut uris = List::new(alloc);
+    uris.push(0)?;
+    Ok(uris)
 }

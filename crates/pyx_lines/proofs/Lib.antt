@@ -1,5 +1,7 @@
 pub mod Bytes
+pub mod Ending
 pub mod Escaping
+pub mod ReadBack
 pub mod Spelled
 pub mod Text
 pub mod Refused

@@ -40,11 +40,11 @@ other_spaced : (b : ℕ) (rest : List ℕ) → (b == 65) ≡ false → ¬ LacksS
 other_spaced b rest other = λ (lacks : LacksSpace (b ∷ rest)). grind (arith, nat_tests, other, lacks.0)
 
 passed_by : (b : ℕ) (rest : List ℕ) (error : LineError) (is : Bool) → is_passed b ≡ is → IsTrue (is_utf8 (b ∷ rest)) → spelled b rest ≡ Err error →
-    (b == 40) ≡ false → (b == 41) ≡ false → (b == 65) ≡ false → (b == 45) ≡ false → (b == 63) ≡ false → IsRefused error (b ∷ rest)
-passed_by b rest error true is text e n1 n2 n3 n4 n5 = absurd (grind (arith, is, e))
-passed_by b rest error false is text e n1 n2 n3 n4 n5 =
+    (b == 40) ≡ false → (b == 41) ≡ false → (b == 65) ≡ false → (b == 45) ≡ false → (b == 63) ≡ false → (b == 67) ≡ false → IsRefused error (b ∷ rest)
+passed_by b rest error true is text e n1 n2 n3 n4 n5 n6 = absurd (grind (arith, is, e))
+passed_by b rest error false is text e n1 n2 n3 n4 n5 n6 =
     let same : UnknownLine ≡ error = grind (arith, is, e) in
-    let unknown : IsUnknown (b ∷ rest) = rw (n1, n2, n3, n4, n5, is) refl in
+    let unknown : IsUnknown (b ∷ rest) = rw (n1, n2, n3, n4, n5, n6, is) refl in
     subst (λ (refusal : LineError). IsRefused refusal (b ∷ rest)) same (text, unknown)
 
 byte_refused : (b : ℕ) (rest : List ℕ) (error : LineError) → IsTrue (is_utf8 (b ∷ rest)) → spelled b rest ≡ Err error → IsRefused error (b ∷ rest)
@@ -60,7 +60,12 @@ byte_refused b rest error text e =
             | inl is ↦ subst Claim (sym is) (λ text e. absurd (cc)) text e
             | inr n4 ↦ elim (cases_eq b 63) [
               | inl is ↦ subst Claim (sym is) (λ text e. bad 63 rest error text refl (other_spaced 63 rest refl) (instruction_by rest error (space_in rest) refl e) e) text e
-              | inr n5 ↦ passed_by b rest error (is_passed b) refl text e (grind (arith, nat_tests, n1)) (grind (arith, nat_tests, n2)) (grind (arith, nat_tests, n3)) (grind (arith, nat_tests, n4)) (grind (arith, nat_tests, n5))
+              | inr n5 ↦ elim (cases_eq b 67) [
+                | inl is ↦ subst Claim (sym is) (λ text e. absurd (cc)) text e
+                | inr n6 ↦
+                    passed_by b rest error (is_passed b) refl text e (grind (arith, nat_tests, n1)) (grind (arith, nat_tests, n2)) (grind (arith, nat_tests, n3)) (grind (arith, nat_tests, n4))
+                    (grind (arith, nat_tests, n5)) (grind (arith, nat_tests, n6))
+              ]
             ]
           ]
         ]

@@ -7,9 +7,9 @@ use Rattle.std.proofs.lemmas.List.Quantifiers.{position-Some}
 use Rattle.std.proofs.Math.Seq.{split_at, take-append_seam, drop-append-add}
 use Rattle.name_grammar.specs.Names.{is_name, is_ncname}
 use Rattle.pyx_lines.specs.Escapes.{unescape}
-use Rattle.pyx_lines.specs.Spelling.{Spells, spells_start, spells_end, spells_attribute, spells_text, spells_target, spells_instruction, passes_over, passes_empty, is_passed, space_in, named, attribute_of, instruction_of, spelled, line_of}
+use Rattle.pyx_lines.specs.Spelling.{Spells, spells_start, spells_end, spells_attribute, spells_text, spells_target, spells_instruction, spells_comment, passes_over, passes_empty, is_passed, space_in, named, attribute_of, instruction_of, spelled, line_of}
 use Rattle.pyx_lines.specs.declared.line.Line.{Line}
-use Rattle.pyx_lines.specs.declared.line.Line.TheVariants.{Start, End, Attr, Text, Instruction, Passed}
+use Rattle.pyx_lines.specs.declared.line.Line.TheVariants.{Start, End, Attr, Text, Instruction, Comment, Passed}
 use Rattle.pyx_lines.proofs.Bytes.{name_high, ncname_high, first_space, high_no_space}
 
 named_true : (is : Bool) (line line' : Line) → named is line ≡ Ok line' → is ≡ true
@@ -37,6 +37,9 @@ end_spelled name line e = subst (Spells (41 ∷ name)) (named_line (is_name name
 text_spelled : (text : List ℕ) (line : Line) → spelled 45 text ≡ Ok line → Spells (45 ∷ text) line
 text_spelled text line e = let same : Text (unescape text) ≡ line = cc in subst (Spells (45 ∷ text)) same (spells_text text)
 
+comment_spelled : (text : List ℕ) (line : Line) → spelled 67 text ≡ Ok line → Spells (67 ∷ text) line
+comment_spelled text line e = let same : Comment (unescape text) ≡ line = cc in subst (Spells (67 ∷ text)) same (spells_comment text)
+
 attribute_by : (rest : List ℕ) (line : Line) (space : Option ℕ) → space_in rest ≡ space → attribute_of space rest ≡ Ok line → Spells (65 ∷ rest) line
 attribute_by rest line None at e = absurd (cc)
 attribute_by rest line (Some k) at e =
@@ -57,11 +60,11 @@ instruction_by rest line (Some k) at e =
     (subst (Spells (63 ∷ target ++ 32 ∷ value)) (named_line (is_ncname target) (Instruction target (unescape value)) line e) (spells_instruction target value is))
 
 passed_by : (b : ℕ) (rest : List ℕ) (line : Line) (is : Bool) → is_passed b ≡ is → spelled b rest ≡ Ok line →
-    (b == 40) ≡ false → (b == 41) ≡ false → (b == 65) ≡ false → (b == 45) ≡ false → (b == 63) ≡ false → Spells (b ∷ rest) line
-passed_by b rest line true is e n1 n2 n3 n4 n5 =
+    (b == 40) ≡ false → (b == 41) ≡ false → (b == 65) ≡ false → (b == 45) ≡ false → (b == 63) ≡ false → (b == 67) ≡ false → Spells (b ∷ rest) line
+passed_by b rest line true is e n1 n2 n3 n4 n5 n6 =
     let same : Passed ≡ line = grind (arith, is, e) in
     subst (Spells (b ∷ rest)) same (passes_over b rest is)
-passed_by b rest line false is e n1 n2 n3 n4 n5 = absurd (grind (arith, is, e))
+passed_by b rest line false is e n1 n2 n3 n4 n5 n6 = absurd (grind (arith, is, e))
 
 byte_spelled : (b : ℕ) (rest : List ℕ) (line : Line) → spelled b rest ≡ Ok line → Spells (b ∷ rest) line
 byte_spelled b rest line e =
@@ -76,7 +79,12 @@ byte_spelled b rest line e =
             | inl is ↦ subst Claim (sym is) (text_spelled rest line) e
             | inr n4 ↦ elim (cases_eq b 63) [
               | inl is ↦ subst Claim (sym is) (instruction_by rest line (space_in rest) refl) e
-              | inr n5 ↦ passed_by b rest line (is_passed b) refl e (grind (arith, nat_tests, n1)) (grind (arith, nat_tests, n2)) (grind (arith, nat_tests, n3)) (grind (arith, nat_tests, n4)) (grind (arith, nat_tests, n5))
+              | inr n5 ↦ elim (cases_eq b 67) [
+                | inl is ↦ subst Claim (sym is) (comment_spelled rest line) e
+                | inr n6 ↦
+                    passed_by b rest line (is_passed b) refl e (grind (arith, nat_tests, n1)) (grind (arith, nat_tests, n2)) (grind (arith, nat_tests, n3)) (grind (arith, nat_tests, n4))
+                    (grind (arith, nat_tests, n5)) (grind (arith, nat_tests, n6))
+              ]
             ]
           ]
         ]
@@ -102,5 +110,6 @@ takes _ _ text (spells_text value) = rw text refl
 takes _ _ text (spells_target target is) = rw (text, high_no_space target (ncname_high target is), is) refl
 takes _ _ text (spells_instruction target value is) =
     rw (text, first_space target value (ncname_high target is), take-append_seam target (32 ∷ value), drop-append-add target (32 ∷ value) 1, is) refl
+takes _ _ text (spells_comment value) = rw text refl
 takes _ _ text (passes_over b rest is) = rw text (grind (arith, nat_tests, is))
 takes _ _ text passes_empty = rw text refl

@@ -9,10 +9,10 @@ use Rattle.std.proofs.lemmas.List.Folds.{list_all-append}
 use Rattle.std.proofs.lemmas.Str.{IsUtf8-append, IsUtf8-nil, IsUtf8-from_is_utf8, is_utf8-from_IsUtf8}
 use Rattle.pyx_lines.specs.Escapes.{escape, escape_byte, unescape}
 use Rattle.pyx_lines.specs.Lines.{without_empty_end, cut_lines, lines_of}
-use Rattle.pyx_lines.specs.Spelling.{Spells, spells_start, spells_end, spells_attribute, spells_text, spells_target, spells_instruction, passes_over, passes_empty, line_of}
+use Rattle.pyx_lines.specs.Spelling.{Spells, spells_start, spells_end, spells_attribute, spells_text, spells_target, spells_instruction, spells_comment, passes_over, passes_empty, line_of}
 use Rattle.pyx_lines.specs.Writing.{CanBeWritten, body_of, ends_in_return, guarded, written}
 use Rattle.pyx_lines.specs.declared.line.Line.{Line}
-use Rattle.pyx_lines.specs.declared.line.Line.TheVariants.{Start, End, Attr, Text, Instruction, Passed}
+use Rattle.pyx_lines.specs.declared.line.Line.TheVariants.{Start, End, Attr, Text, Instruction, Comment, Passed}
 use Rattle.pyx_lines.proofs.Bytes.{not_feed, name_high, ncname_high, high_not_feed, escaped_not_feed}
 use Rattle.pyx_lines.proofs.Escaping.{unescape-other}
 use Rattle.pyx_lines.proofs.Spelled.{taken, takes}
@@ -40,6 +40,7 @@ body_utf8 (Text value) can = ascii_then 45 (escape value) (omega arith) (IsUtf8-
 body_utf8 (Instruction target value) can =
     ascii_then 63 (target ++ 32 ∷ escape value) (omega arith)
     (IsUtf8-append target (32 ∷ escape value) (text_of target can.1) (ascii_then 32 (escape value) (omega arith) (IsUtf8-escape value (text_of value can.2))))
+body_utf8 (Comment value) can = ascii_then 67 (escape value) (omega arith) (IsUtf8-escape value (text_of value can))
 body_utf8 Passed can = absurd can
 
 -- what is written spells the line
@@ -51,6 +52,7 @@ body_spells (Attr name value) can =
 body_spells (Text value) can = subst (λ (back : List ℕ). Spells (45 ∷ escape value) (Text back)) (unescape-escape value) (spells_text (escape value))
 body_spells (Instruction target value) can =
     subst (λ (back : List ℕ). Spells (63 ∷ target ++ 32 ∷ escape value) (Instruction target back)) (unescape-escape value) (spells_instruction target (escape value) can.0)
+body_spells (Comment value) can = subst (λ (back : List ℕ). Spells (67 ∷ escape value) (Comment back)) (unescape-escape value) (spells_comment (escape value))
 body_spells Passed can = absurd can
 
 pub line_back : (line : Line) → CanBeWritten line → line_of (body_of line) ≡ Ok line
@@ -65,6 +67,7 @@ body_not_feed (End name) can = high_not_feed name (name_high name can.0)
 body_not_feed (Attr name value) can = pair_not_feed 65 name value refl (high_not_feed name (name_high name can.0))
 body_not_feed (Text value) can = escaped_not_feed value
 body_not_feed (Instruction target value) can = pair_not_feed 63 target value refl (high_not_feed target (ncname_high target can.0))
+body_not_feed (Comment value) can = escaped_not_feed value
 body_not_feed Passed can = absurd can
 
 guarded_by : (bytes : List ℕ) (is : Bool) → list_all not_feed bytes ≡ true → list_all not_feed (if is then bytes ++ 13 ∷ [] else bytes) ≡ true
@@ -103,13 +106,20 @@ more_parts part (next ∷ parts) some = refl
 pub cut_lines-feed : (bytes more : List ℕ) → list_all not_feed bytes ≡ true → cut_lines (bytes ++ 10 ∷ more) ≡ bytes ∷ cut_lines more
 cut_lines-feed bytes more plain = rw (split_at_feed bytes more plain) (more_parts bytes (slice_split (λ b. b == 10) more) (split_some more))
 
--- whatever stands after a written line, its first line is what was written for it
-pub lines_of-written : (line : Line) (more : List ℕ) → CanBeWritten line → lines_of (written line ++ more) ≡ body_of line ∷ lines_of more
-lines_of-written line more can =
+-- the first line is what was written for it
+pub cut_written : (line : Line) (more : List ℕ) → CanBeWritten line → cut_lines (written line ++ more) ≡ guarded (body_of line) ∷ cut_lines more
+cut_written line more can =
     let body = body_of line in
     let plain : list_all not_feed (guarded body) ≡ true = guarded_by body (ends_in_return body) (body_not_feed line can) in
-    let stripped : strip_carriage_return (guarded body) ≡ body = strip_by body (ends_in_return body) refl in
-    rw (append_assoc (guarded body) (10 ∷ []) more, cut_lines-feed (guarded body) more plain, stripped) refl
+    rw (append_assoc (guarded body) (10 ∷ []) more) (cut_lines-feed (guarded body) more plain)
+
+-- a reader drops what guards a line
+pub unguarded : (line : Line) → strip_carriage_return (guarded (body_of line)) ≡ body_of line
+unguarded line = strip_by (body_of line) (ends_in_return (body_of line)) refl
+
+-- whatever stands after a written line, its first line is what was written for it
+pub lines_of-written : (line : Line) (more : List ℕ) → CanBeWritten line → lines_of (written line ++ more) ≡ body_of line ∷ lines_of more
+lines_of-written line more can = rw (cut_written line more can, unguarded line) refl
 
 pair_parts : (b : ℕ) (name value : List ℕ) → b < 128 → IsTrue (is_utf8 (b ∷ name ++ 32 ∷ value)) → IsTrue (is_utf8 name) × IsTrue (is_utf8 (unescape value))
 pair_parts b name value small is =
@@ -127,6 +137,7 @@ spelled_can _ _ text (spells_attribute name value is) some = let parts = pair_pa
 spelled_can _ _ text (spells_text value) some = is_utf8-from_IsUtf8 (unescape value) (IsUtf8-unescape value (tail_utf8 45 value (omega arith) text))
 spelled_can _ _ text (spells_target target is) some = (is, is_utf8-from_IsUtf8 target (tail_utf8 63 target (omega arith) text), is_utf8-from_IsUtf8 [] IsUtf8-nil)
 spelled_can _ _ text (spells_instruction target value is) some = let parts = pair_parts 63 target value (omega arith) text in (is, parts.0, parts.1)
+spelled_can _ _ text (spells_comment value) some = is_utf8-from_IsUtf8 (unescape value) (IsUtf8-unescape value (tail_utf8 67 value (omega arith) text))
 spelled_can _ _ text (passes_over b rest is) some = absurd (some refl)
 spelled_can _ _ text passes_empty some = absurd (some refl)
 

@@ -1,4 +1,5 @@
 pub mod Escapes
 pub mod Lines
+pub mod ReadingBack
 pub mod Spelling
 pub mod Writing

@@ -5,6 +5,7 @@ use Rattle.std.specs.Str.Lines.{strip_carriage_return}
 use Rattle.pyx_lines.specs.Spelling.{line_of}
 use Rattle.pyx_lines.specs.declared.line.Line.{Line}
 use Rattle.pyx_lines.specs.declared.line_error.LineError.{LineError}
+use Rattle.pyx_lines.specs.declared.line_error.LineError.TheVariants as error
 
 -- the parts that are lines: what follows the last line feed is one if it isn't empty
 abbrev pub without_empty_end : List (List ℕ) → List (List ℕ)
@@ -20,15 +21,26 @@ cut_lines bytes = without_empty_end (slice_split (λ b. b == 10) bytes)
 abbrev pub lines_of : List ℕ → List (List ℕ)
 lines_of bytes = map strip_carriage_return (cut_lines bytes)
 
--- why a line of a source is refused: its number is 4,294,967,296, it has more than 1,048,576 bytes before its line feed, or its bytes spell no line
+-- why a line of a source is refused: its number is 4,294,967,296, it has more than 1,048,576 bytes before its line feed, or why its bytes spell no line
 pub data Refusal : Type 0 where
   TooManyLines : Refusal
   LongLine : Refusal
-  Misspelled : LineError → Refusal
+  NotUtf8 : Refusal
+  UnknownLine : Refusal
+  NoSpace : Refusal
+  BadName : Refusal
+
+-- the refusal that a line's error tells; no bytes are refused for want of memory, so the last case never comes
+abbrev pub misspelled : LineError → Refusal
+misspelled error.NotUtf8 = NotUtf8
+misspelled error.UnknownLine = UnknownLine
+misspelled error.NoSpace = NoSpace
+misspelled error.BadName = BadName
+misspelled error.Memory = NotUtf8
 
 abbrev pub or_misspelled : Result Line LineError → Result Line Refusal
 or_misspelled (Ok line) = Ok line
-or_misspelled (Err error) = Err (Misspelled error)
+or_misspelled (Err error) = Err (misspelled error)
 
 -- what the line of this number is, whose bytes were cut so: an event, or its first refusal
 abbrev pub judged : ℕ → List ℕ → Result Line Refusal

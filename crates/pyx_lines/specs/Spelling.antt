@@ -5,17 +5,17 @@ use Rattle.std.specs.Str.{is_utf8}
 use Rattle.name_grammar.specs.Names.{is_name, is_ncname}
 use Rattle.pyx_lines.specs.Escapes.{unescape}
 use Rattle.pyx_lines.specs.declared.line.Line.{Line}
-use Rattle.pyx_lines.specs.declared.line.Line.TheVariants.{Start, End, Attr, Text, Instruction, Passed}
+use Rattle.pyx_lines.specs.declared.line.Line.TheVariants.{Start, End, Attr, Text, Instruction, Comment, Passed}
 use Rattle.pyx_lines.specs.declared.line_error.LineError.{LineError}
 use Rattle.pyx_lines.specs.declared.line_error.LineError.TheVariants.{NotUtf8, UnknownLine, NoSpace, BadName, Memory}
 
--- a first byte whose line is passed over: another of `B` to `Z`
+-- a first byte whose line is passed over: `B`, or one of `D` to `Z`
 abbrev pub is_passed : ℕ → Bool
-is_passed b = nat_le 66 b && nat_le b 90
+is_passed b = b == 66 || nat_le 68 b && nat_le b 90
 
 -- a first byte of the notation
 abbrev pub is_known : ℕ → Bool
-is_known b = b == 40 || b == 41 || b == 65 || b == 45 || b == 63 || is_passed b
+is_known b = b == 40 || b == 41 || b == 65 || b == 45 || b == 63 || b == 67 || is_passed b
 
 -- the notation, a case for each first byte
 pub data Spells : List ℕ → Line → Type 0 where
@@ -25,6 +25,7 @@ pub data Spells : List ℕ → Line → Type 0 where
   spells_text : (text : List ℕ) → Spells (45 ∷ text) (Text (unescape text))
   spells_target : (target : List ℕ) → IsTrue (is_ncname target) → Spells (63 ∷ target) (Instruction target [])
   spells_instruction : (target value : List ℕ) → IsTrue (is_ncname target) → Spells (63 ∷ target ++ 32 ∷ value) (Instruction target (unescape value))
+  spells_comment : (text : List ℕ) → Spells (67 ∷ text) (Comment (unescape text))
   passes_over : (b : ℕ) (rest : List ℕ) → IsTrue (is_passed b) → Spells (b ∷ rest) Passed
   passes_empty : Spells [] Passed
 
@@ -72,6 +73,7 @@ spelled b rest =
     if b == 65 then attribute_of (space_in rest) rest else
     if b == 45 then Ok (Text (unescape rest)) else
     if b == 63 then instruction_of (space_in rest) rest else
+    if b == 67 then Ok (Comment (unescape rest)) else
     if is_passed b then Ok Passed else Err UnknownLine
 
 -- the line that the bytes spell, or their refusal, by a test of each first byte

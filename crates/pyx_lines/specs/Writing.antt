@@ -4,7 +4,7 @@ use Rattle.std.specs.Str.{is_utf8}
 use Rattle.name_grammar.specs.Names.{is_name, is_ncname}
 use Rattle.pyx_lines.specs.Escapes.{escape}
 use Rattle.pyx_lines.specs.declared.line.Line.{Line}
-use Rattle.pyx_lines.specs.declared.line.Line.TheVariants.{Start, End, Attr, Text, Instruction, Passed}
+use Rattle.pyx_lines.specs.declared.line.Line.TheVariants.{Start, End, Attr, Text, Instruction, Comment, Passed}
 
 -- any line but one passed over, where its name is a name, its target an NCName, and all of it is UTF-8
 abbrev pub CanBeWritten : Line → Type 0
@@ -13,6 +13,7 @@ CanBeWritten (End name) = IsTrue (is_name name) × IsTrue (is_utf8 name)
 CanBeWritten (Attr name value) = IsTrue (is_name name) × IsTrue (is_utf8 name) × IsTrue (is_utf8 value)
 CanBeWritten (Text text) = IsTrue (is_utf8 text)
 CanBeWritten (Instruction target value) = IsTrue (is_ncname target) × IsTrue (is_utf8 target) × IsTrue (is_utf8 value)
+CanBeWritten (Comment text) = IsTrue (is_utf8 text)
 CanBeWritten Passed = ⊥
 
 -- the bytes that a line is written as, before what stands at its end
@@ -22,6 +23,7 @@ body_of (End name) = 41 ∷ name
 body_of (Attr name value) = 65 ∷ name ++ 32 ∷ escape value
 body_of (Text text) = 45 ∷ escape text
 body_of (Instruction target value) = 63 ∷ target ++ 32 ∷ escape value
+body_of (Comment text) = 67 ∷ escape text
 body_of Passed = []
 
 -- the last byte is a carriage return

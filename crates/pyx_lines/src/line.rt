@@ -13,6 +13,8 @@ pub enum Line {
     Text(List<u8>),
     /// `?target value`
     Instruction { target: List<u8>, value: List<u8> },
-    /// An empty line, or one that begins with another of `B` to `Z`.
+    /// `Ctext`
+    Comment(List<u8>),
+    /// An empty line, or one that begins with `B` or one of `D` to `Z`.
     Passed,
 }

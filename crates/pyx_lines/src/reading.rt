@@ -4,7 +4,7 @@ ghost use Rattle.std.specs.Str.{is_utf8};
 ghost use Rattle.name_grammar.specs.Names.{is_name, is_ncname};
 ghost use Rattle.pyx_lines.specs.Escapes.{unescape};
 ghost use Rattle.pyx_lines.specs.Spelling.{Spells, IsRefused, line_of, spelled, attribute_of, instruction_of, space_in, named, Answers};
-ghost use Rattle.pyx_lines.specs.declared.line.Line.TheVariants.{Start, End, Text, Instruction};
+ghost use Rattle.pyx_lines.specs.declared.line.Line.TheVariants.{Start, End, Text, Instruction, Comment};
 ghost use Rattle.pyx_lines.specs.declared.line_error.LineError.TheVariants.{Memory};
 
 use crate::escapes::unescape;
@@ -54,7 +54,8 @@ fn spelled(alloc: Global, first: u8, rest: &[u8]) -> Result<Line, LineError>
         b'A' => attribute(alloc, rest),
         b'-' => text(alloc, rest),
         b'?' => instruction(alloc, rest),
-        b'B'..=b'Z' => Ok(Line::Passed),
+        b'C' => comment(alloc, rest),
+        b'B' | b'D'..=b'Z' => Ok(Line::Passed),
         _ => Err(LineError::UnknownLine),
     }
 }
@@ -93,6 +94,15 @@ fn text(alloc: Global, rest: &[u8]) -> Result<Line, LineError>
 {
     match value(alloc, rest) {
         Ok(text) => Ok(Line::Text(text)),
+        Err(error) => Err(error),
+    }
+}
+
+fn comment(alloc: Global, rest: &[u8]) -> Result<Line, LineError>
+    ensures { Answers (Ok (Comment (unescape rest.now))) result }
+{
+    match value(alloc, rest) {
+        Ok(text) => Ok(Line::Comment(text)),
         Err(error) => Err(error),
     }
 }

@@ -1,8 +1,8 @@
 -- What a reader of lines is, as a value, and what a call does to it and to its source.
 use Rattle.std.specs.Prelude.{◌≡◌, ◌≤◌, ℕ, ◌+◌, List, [], ◌∷◌, ◌++◌, Bool, false, IsTrue, ⊤, take, drop, Option, Some, None, Result, Ok, Err}
 use Rattle.pyx_lines.specs.declared.line.Line.{Line}
-use Rattle.pyx_lines.specs.declared.line.Line.TheVariants.{Start, End, Attr, Text, Instruction, Passed}
-use Rattle.pyx_lines.specs.Lines.{cut_lines, judged, judged_from, Refusal, TooManyLines, LongLine, Misspelled}
+use Rattle.pyx_lines.specs.declared.line.Line.TheVariants.{Start, End, Attr, Text, Instruction, Comment, Passed}
+use Rattle.pyx_lines.specs.Lines.{cut_lines, judged, judged_from, Refusal, TooManyLines, LongLine, misspelled}
 use Rattle.pyx_lines.specs.Spelling.{line_of}
 use Rattle.pyx_source.specs.Feeds.{HoldsNoFeed}
 use Rattle.pyx_source.specs.declared.read_error.ReadError.{ReadError}
@@ -54,7 +54,7 @@ abbrev pub refusal_of : ReadError → Option Refusal
 refusal_of error.Failed = None
 refusal_of error.LongLine = Some LongLine
 refusal_of error.TooManyLines = Some TooManyLines
-refusal_of (error.Line cause) = Some (Misspelled cause)
+refusal_of (error.Line cause) = Some (misspelled cause)
 refusal_of error.Memory = None
 
 -- a line passed over counts
@@ -64,6 +64,7 @@ passed_by (End name) = 0
 passed_by (Attr name value) = 0
 passed_by (Text text) = 0
 passed_by (Instruction target value) = 0
+passed_by (Comment text) = 0
 passed_by Passed = 1
 
 -- the error that tells why a line's bytes spell none

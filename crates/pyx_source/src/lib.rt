@@ -8,6 +8,3 @@ mod seeking;
 
 pub use line_reader::LineReader;
 pub use read_error::ReadError;
-
-#[cfg(test)]
-mod tests;

@@ -110,7 +110,7 @@ impl LineReader {
         ensures over { self.old.refused ≡ None → IsTrue self.old.ended → (result ≡ Ok None) × (self.new ≡ self.old) × (source.new ≡ source.old) }
 
         // What it reads.
-        ensures reads { ReadsOnlyForALine self.old.held (S.left source.old) (S.left source.new) }
+        ensures reads { ReadsOnlyForALine self.old.line self.old.held (S.left source.old) (S.left source.new) }
         ensures later { S.faults source.old ≤ S.faults source.new }
     {
         if let Some(error) = self.refused {
@@ -143,7 +143,7 @@ impl LineReader {
         ensures whole { IsErrOf result Failed → HoldsNoFeed self.new.held
             × Moves self.old.held (S.left source.old) self.new.held (S.left source.new) }
         ensures spelled { IsErrOf result (ReadError.Line LineError.Memory) → ⊥ }
-        ensures reads { ReadsOnlyForALine self.old.held (S.left source.old) (S.left source.new) }
+        ensures reads { ReadsOnlyForALine self.old.line self.old.held (S.left source.old) (S.left source.new) }
         ensures later { S.faults source.old ≤ S.faults source.new }
     {
         match seek(&mut self.pending, &mut self.piece, self.line, source) {

@@ -16,6 +16,9 @@ use edge::Source;
 /// The most bytes of a line before its line feed.
 const LINE_LIMIT: usize = 1_048_576;
 
+/// The most bytes that are held without a line feed when more are read.
+const READ_LIMIT: usize = LINE_LIMIT;
+
 /// The number of the last line that may be given.
 const LAST_LINE: u64 = 4_294_967_295;
 
@@ -46,7 +49,7 @@ pub fn seek<S: Source>(
     ensures end { IfOk result (λ found. MeetsEnd found (S.left source.new)) }
     ensures refused { IfErr result (λ error. IfSome (refusal_of error) (λ refusal. Refuses line pending.old (S.left source.old) refusal)) }
     ensures spells { (cause : LineError) → IsErrOf result (Line cause) → ⊥ }
-    ensures reads { ReadsOnlyForALine pending.old (S.left source.old) (S.left source.new) }
+    ensures reads { ReadsOnlyForALine line pending.old (S.left source.old) (S.left source.new) }
     ensures later { S.faults source.old ≤ S.faults source.new }
     ensures failed { IsErrOf result Failed → Rose (S.faults source.old) (S.faults source.new) }
     ensures kept { IsErrOf result Failed → HoldsNoFeed pending.new × Moves pending.old (S.left source.old) pending.new (S.left source.new) }
@@ -61,7 +64,7 @@ pub fn seek<S: Source>(
             }
             return Ok(Found::Line(at));
         }
-        if pending.len() > LINE_LIMIT {
+        if pending.len() > READ_LIMIT {
             return Err(ReadError::LongLine);
         }
         if read_piece(pending, piece, source)? == 0 {

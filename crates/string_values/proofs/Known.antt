@@ -10,7 +10,7 @@ use Rattle.doc_model.specs.Document.{is_parent, is_open}
 use Rattle.doc_model.specs.Lawful.{Grows, IsJoined, AtStep}
 use Rattle.doc_model.specs.Rows.{rows_of, row_at}
 use Rattle.doc_model.specs.Values.{value_at, texts_below, value_in}
-use Rattle.string_values.specs.Values.{value_need, string_value_of}
+use Rattle.doc_model.specs.Values.{value_need, string_value_of}
 use Rattle.doc_laws.proofs.Growth.{joined_grows, prefix_rows, row_at_grows}
 use Rattle.string_values.specs.Appended.{appended_to}
 

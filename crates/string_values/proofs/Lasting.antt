@@ -10,7 +10,7 @@ use Rattle.doc_model.specs.Lawful.{IsLawful, Grows, IsJoined}
 use Rattle.doc_model.specs.Relations.{extent_of}
 use Rattle.doc_model.specs.Rows.{rows_of, row_at}
 use Rattle.doc_model.specs.Values.{value_at, texts_below, value_in}
-use Rattle.string_values.specs.Values.{value_need, string_value_of}
+use Rattle.doc_model.specs.Values.{value_need, string_value_of}
 use Rattle.doc_model.proofs.Texts.{texts_in, texts_below_are}
 use Rattle.doc_laws.proofs.Growth.{joined_grows}
 use Rattle.doc_laws.proofs.Ends.{shut_grows, extent_le}

@@ -11,7 +11,7 @@ use Rattle.doc_model.specs.Relations.{numbers, extent_of}
 use Rattle.doc_model.specs.Rows.{rows_of, row_at}
 use Rattle.doc_model.specs.Strip.{is_text, is_visible}
 use Rattle.doc_model.specs.Values.{is_shown_text, value_at}
-use Rattle.string_values.specs.Values.{string_value_of}
+use Rattle.doc_model.specs.Values.{string_value_of}
 use Rattle.doc_model.proofs.Texts.{texts_in, texts_push, texts_below_are}
 use Rattle.doc_laws.proofs.Numbers.{filter_same}
 use Rattle.doc_laws.proofs.Growth.{joined_grows, prefix_rows, row_at_grows}

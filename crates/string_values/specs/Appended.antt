@@ -1,6 +1,6 @@
 -- What a call that appends a string-value says.
 use Rattle.std.specs.Prelude.{ℕ, List, ◌++◌, Result, Ok, Err}
-use Rattle.axis_walkers.specs.declared.ask.Ask.{Ask}
+use Rattle.doc_model.specs.declared.ask.Ask.{Ask}
 use Rattle.doc_model.specs.Answers.{Answer, Known, and_then}
 
 -- these bytes, and after them a value once it is known

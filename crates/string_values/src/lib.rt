@@ -4,9 +4,6 @@
 mod laws;
 mod value;
 
-pub use axis_walkers::Ask;
+pub use doc_model::Ask;
 pub use laws::known_values_stay;
 pub use value::value_of;
-
-#[cfg(test)]
-mod tests;

@@ -1,5 +1,5 @@
 ghost use Rattle.std.specs.Prelude.{◌≡◌, true, [], ◌∷◌, ◌++◌, OnOk, OnErr, filter, flat_map};
-ghost use Rattle.axis_walkers.specs.Asks.{stop_of};
+ghost use Rattle.doc_model.specs.Asks.{stop_of};
 ghost use Rattle.doc_model.specs.Answers.{Answers};
 ghost use Rattle.doc_model.specs.Document.{is_parent};
 ghost use Rattle.doc_model.specs.Lawful.{IsJoined};
@@ -8,10 +8,9 @@ ghost use Rattle.doc_model.specs.Strip.{is_text};
 ghost use Rattle.doc_model.specs.Values.{is_shown_text, value_at};
 ghost use Rattle.doc_model.specs.View.{Moves};
 ghost use Rattle.string_values.specs.Appended.{appended_to, given};
-ghost use Rattle.string_values.specs.Values.{string_value_of};
+ghost use Rattle.doc_model.specs.Values.{string_value_of};
 
-use axis_walkers::Ask;
-use doc_model::{Kind, NodeView};
+use doc_model::{Ask, NodeView};
 use std::alloc::{AllocError, Global};
 
 /// Appends the string-value of row `n` (XPath 1.0, section 5): of the root or an element the texts of its
@@ -31,31 +30,11 @@ pub fn value_of<V: NodeView>(
     ensures answers { Answers stop_of (λ rules steps. appended_to into.old.items (string_value_of rules steps n)) (V.sees view.old) (V.sees view.new) (given into.new.items result) }
     ensures err { OnErr result (into.new.items ≡ into.old.items) }
 {
-    if may_have_children(view.kind(n)) {
+    if view.kind(n).may_have_children() {
         return texts_of(alloc, view, n, into);
     }
-    match view.text(alloc, n, into) {
-        Ok(()) => Ok(()),
-        Err(_) => Err(Ask::Memory),
-    }
-}
-
-fn may_have_children(kind: Kind) -> bool
-    ensures { result ≡ is_parent kind }
-{
-    match kind {
-        Kind::Root | Kind::Element => true,
-        Kind::Attribute | Kind::Text | Kind::Instruction => false,
-    }
-}
-
-fn is_text(kind: Kind) -> bool
-    ensures { result ≡ is_text kind }
-{
-    match kind {
-        Kind::Text => true,
-        Kind::Root | Kind::Element | Kind::Attribute | Kind::Instruction => false,
-    }
+    view.text(alloc, n, into)?;
+    Ok(())
 }
 
 // Appends the visible texts of the rows after row n, up to its extent.
@@ -95,7 +74,7 @@ fn append_text<V: NodeView>(
     ensures value { OnOk result (into.new.items ≡ into.old.items ++ flat_map (value_at (rows_of (V.sees view.new).steps)) (filter (is_shown_text (V.sees view.new).rules (rows_of (V.sees view.new).steps)) (k ∷ []))) }
     ensures err { OnErr result (into.new.items ≡ into.old.items) }
 {
-    if !is_text(view.kind(k)) {
+    if !view.kind(k).is_text() {
         return Ok(());
     }
     if !view.shown(k) {

@@ -1,9 +1,10 @@
 -- What was read of a row is so of later steps.
-use Rattle.std.proofs.Common.{◌≡◌, ℕ, suc, true, false, cond, List, [], ◌∷◌, ◌++◌, None, drop, ap, sym, ◌∙◌, subst, refl, arith, append-nil, inl, inr}
+use Rattle.std.proofs.Common.{◌≡◌, ℕ, suc, true, false, cond, List, [], ◌∷◌, ◌++◌, None, drop, ap, sym, ◌∙◌, subst, refl, arith, append-nil}
 use Rattle.std.proofs.lemmas.Bool.{false≢true}
 use Rattle.std.proofs.lemmas.List.{drop-append-le}
+use Rattle.doc_laws.proofs.Standing.{standing_plain}
 use Rattle.doc_model.specs.declared.row.Kind.{Kind}
-use Rattle.doc_model.specs.declared.row.Kind.TheVariants.{Root, Element, Attribute, Text, Instruction}
+use Rattle.doc_model.specs.declared.row.Kind.TheVariants.{Root, Element, Attribute, Text, Instruction, Comment, Comment}
 use Rattle.doc_model.specs.declared.row.Row.{Row}
 use Rattle.doc_model.specs.declared.step.Step.{Step}
 use Rattle.doc_model.specs.declared.step.Step.TheVariants.{Node, Shut, End}
@@ -35,7 +36,7 @@ space_stops [] row more a = ap (λ b. cond b (or_else (says_space row) (space_in
 space_stops (x ∷ xs) row more a = ap (λ k. cond (is_attribute x.kind) (or_else (says_space x) k) None) (space_stops xs row more a)
 
 plain_node : (opened : List ℕ) (row : Row) (attributes : List Row) → CanJoin opened row attributes → is_attribute row.kind ≡ false
-plain_node opened row attributes j = elim j.kind [ inl e ↦ ap is_attribute e | inr t ↦ elim t [ inl e ↦ ap is_attribute e | inr e ↦ ap is_attribute e ] ]
+plain_node opened row attributes j = standing_plain row.kind j.kind
 
 runs_past : (s : Document) (steps : List Step) (xs : List Row) → LawfulFrom s steps → (attribute_run (xs ++ rows_given steps) ≡ attribute_run xs) × (space_in (xs ++ rows_given steps) ≡ space_in xs)
 runs_past s [] xs l = (ap attribute_run (append-nil xs), ap space_in (append-nil xs))
@@ -60,3 +61,4 @@ parent_plain Element h = refl
 parent_plain Attribute h = absurd (false≢true h)
 parent_plain Text h = refl
 parent_plain Instruction h = refl
+parent_plain Comment h = refl

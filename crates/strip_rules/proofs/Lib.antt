@@ -1,4 +1,5 @@
 mod Later
+mod Weighing
 mod Ruling
 mod Spacing
 mod Judging

@@ -14,8 +14,8 @@ pub fn links_are_those_of_visible_rows()
     ensures prev { (rules : List StripRule) (rows : List Row) (m k : ℕ) → m < length rows → ((prev_shown rules rows m ≡ Some k) ↔ IsPrevVisible rules rows m k) }
 {}
 
-/// Of the rules that fit an element's name one of the highest rank decides, and of these the last; none
-/// decides only where none fits.
+/// Of the rules that fit an element's name one of the highest import precedence decides, of these one of
+/// the highest rank, and of these the last; none decides only where none fits.
 pub fn highest_and_last_rule_decides()
     ensures rule { (rules : List StripRule) (row : Row) (rule : StripRule) → best_from None rules row ≡ Some rule → (i : ℕ) × IsDeciding rules row i rule }
     ensures none { (rules : List StripRule) (row : Row) → best_from None rules row ≡ None → (j : ℕ) (other : StripRule) → slice_get rules j ≡ Some other → rule_fits other row ≡ false }

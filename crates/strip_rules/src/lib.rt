@@ -13,6 +13,3 @@ pub use laws::{
     highest_and_last_rule_decides, links_are_those_of_visible_rows, nearest_space_decides,
 };
 pub use view::StripView;
-
-#[cfg(test)]
-mod tests;

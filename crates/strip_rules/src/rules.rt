@@ -1,8 +1,9 @@
-ghost use Rattle.std.specs.Prelude.{◌≡◌, true, None};
+ghost use Rattle.std.specs.Prelude.{◌≡◌, ◌≤◌, true, None};
 ghost use Rattle.doc_model.specs.Lawful.{IsJoined};
 ghost use Rattle.doc_model.specs.Rows.{rows_of, row_at};
 ghost use Rattle.doc_model.specs.Strip.{is_spelled, all_spelled, strips, rank, rule_fits, best_from, says_strip};
 ghost use Rattle.doc_model.specs.View.{Moves};
+ghost use Rattle.strip_rules.specs.Deciding.{weight};
 
 use doc_model::{Kind, NodeView, StripRule};
 
@@ -19,33 +20,41 @@ pub(crate) fn strips<V: NodeView>(view: &mut V, rules: &[StripRule], n: u32) -> 
     }
 }
 
-// Whether the rule of the highest rank that fits row n, and of equals the last, strips.
+// Whether the rule of the highest precedence and rank that fits row n, and of equals the last, strips.
 fn best_strips<V: NodeView>(view: &mut V, rules: &[StripRule], n: u32) -> bool
     requires joined { IsJoined (V.sees view.old).steps n }
     requires spelled { all_spelled rules.now ≡ true }
     ensures moves { Moves (V.sees view.old) (V.sees view.new) }
     ensures value { result ≡ says_strip (best_from None rules.now (row_at (rows_of (V.sees view.new).steps) n)) }
 {
-    let _kind = view.kind(n);
+    view.told();
     let mut strip = false;
-    let mut best = 0u32;
+    let mut best = 0u64;
     'judge: for rule in rules {
-        let rank = rank(rule);
-        if rank < best {
+        let weight = weight(rule);
+        if weight < best {
             continue;
         }
         if !fits(view, rule, n) {
             continue;
         }
-        best = rank;
+        best = weight;
         strip = rule.strip;
     }
     strip
 }
 
+// Import precedence and rank in one number.
+fn weight(rule: &StripRule) -> u64
+    ensures { result ≡ weight rule.now }
+{
+    u64::from(rule.precedence) * 3 + u64::from(rank(rule))
+}
+
 // How much of a name the rule gives.
 fn rank(rule: &StripRule) -> u32
-    ensures { result ≡ rank rule.now }
+    ensures rank { result ≡ rank rule.now }
+    ensures small { result ≤ 2 }
 {
     let uri = match &rule.uri {
         Some(_) => 1,
@@ -70,7 +79,7 @@ fn fits<V: NodeView>(view: &mut V, rule: &StripRule, n: u32) -> bool
             None => view.name_is(n, uri.as_slice(), None),
         },
         None => {
-            let _kind = view.kind(n);
+            view.told();
             true
         }
     }

@@ -37,7 +37,7 @@ pub(crate) fn next_shown<V: NodeView>(view: &mut V, rules: &[StripRule], n: u32)
     ensures moves { Moves (V.sees view.old) (V.sees view.new) }
     ensures value { IsNextUnder rules.now (V.sees view.old).steps (V.sees view.new).steps n result }
 {
-    let _kind = view.kind(n);
+    view.told();
     let mut at = n;
     'pass: loop {
         let sibling = match view.next(at) {
@@ -60,7 +60,7 @@ pub(crate) fn prev_shown<V: NodeView>(view: &mut V, rules: &[StripRule], n: u32)
     ensures moves { Moves (V.sees view.old) (V.sees view.new) }
     ensures value { result ≡ prev_shown rules.now (rows_of (V.sees view.new).steps) n }
 {
-    let _kind = view.kind(n);
+    view.told();
     let mut at = n;
     'back: loop {
         let earlier = match view.prev(at) {

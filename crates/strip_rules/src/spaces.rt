@@ -16,7 +16,7 @@ pub(crate) fn keeps_space<V: NodeView>(view: &mut V, n: u32) -> bool
     ensures moves { Moves (V.sees view.old) (V.sees view.new) }
     ensures value { result ≡ keeps_space (rows_of (V.sees view.new).steps) n }
 {
-    let _kind = view.kind(n);
+    view.told();
     let mut at = n;
     'up: loop {
         at = match view.parent(at) {

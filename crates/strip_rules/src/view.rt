@@ -36,6 +36,10 @@ impl<'a, V: NodeView> NodeView for StripView<'a, V> {
 
     ghost sees = { λ v. stripped v.below.ghost_name v.rules.now.rules (V.sees v.below.now) };
 
+    fn told(&mut self) {
+        self.below.told();
+    }
+
     fn kind(&mut self, n: u32) -> Kind {
         self.below.kind(n)
     }

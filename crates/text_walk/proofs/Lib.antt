@@ -5,4 +5,3 @@ pub mod Reach
 pub mod Asked
 pub mod Measure
 pub mod Final
-pub mod Cases

@@ -3,7 +3,7 @@ use Rattle.std.proofs.Common.{◌≡◌, ℕ, zero, suc, ◌+◌, ◌-◌, ◌<�
 use Rattle.std.specs.Bool.{⊤}
 use Rattle.std.proofs.lemmas.Bool.{cases_Bool, cases_lt, cases_order, cases_eq, lt-ltb, eq-eqb, eqb-true, ne_eqb, or_cases, false≢true}
 use Rattle.doc_model.specs.declared.row.Kind.{Kind}
-use Rattle.doc_model.specs.declared.row.Kind.TheVariants.{Root, Element, Attribute, Text, Instruction}
+use Rattle.doc_model.specs.declared.row.Kind.TheVariants.{Root, Element, Attribute, Text, Instruction, Comment}
 use Rattle.doc_model.specs.declared.row.Row.{Row}
 use Rattle.doc_model.specs.declared.step.Step.{Step}
 use Rattle.doc_model.specs.declared.step.Step.TheVariants.{Node, Shut, End}
@@ -58,6 +58,7 @@ parent_plain row h = go row.kind h
     go Attribute h = absurd (false≢true h)
     go Text h = refl
     go Instruction h = refl
+    go Comment h = refl
 
 pub plain_decider : (rows : List Row) (n : ℕ) → is_attribute (row_at rows n).kind ≡ false → sibling_parent rows n ≡ parent_of rows n
 plain_decider rows n h = ap (λ b. cond b None (parent_of rows n)) h

@@ -6,7 +6,7 @@ use Rattle.std.proofs.lemmas.List.Elements.{filter-append}
 use Rattle.std.proofs.lemmas.List.Folds.{concat-append}
 use Rattle.std.specs.List.{concat}
 use Rattle.doc_model.specs.declared.row.Kind.{Kind}
-use Rattle.doc_model.specs.declared.row.Kind.TheVariants.{Root, Element, Attribute, Text, Instruction}
+use Rattle.doc_model.specs.declared.row.Kind.TheVariants.{Root, Element, Attribute, Text, Instruction, Comment}
 use Rattle.doc_model.specs.declared.row.Row.{Row}
 use Rattle.doc_model.specs.Document.{is_attribute}
 use Rattle.doc_model.specs.Legible.{is_empty}
@@ -41,6 +41,7 @@ attribute_no_text Element h = absurd (false≢true h)
 attribute_no_text Attribute h = refl
 attribute_no_text Text h = absurd (false≢true h)
 attribute_no_text Instruction h = absurd (false≢true h)
+attribute_no_text Comment h = absurd (false≢true h)
 
 -- attributes give nothing
 run_text : (xs : List Row) → (text_of (take (attribute_run xs) xs) ≡ []) × (events_in (take (attribute_run xs) xs) ≡ 0)

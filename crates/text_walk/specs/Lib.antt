@@ -5,4 +5,3 @@ pub mod Walking
 pub mod Turning
 pub mod Ask
 pub mod Order
-pub mod Case

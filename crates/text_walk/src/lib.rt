@@ -12,8 +12,3 @@ pub use fault::FaultKind;
 pub use resuming::{done_is_final, fault_is_final, still_turn_stands, turn_goes_on, way_goes_on};
 pub use turn::Turn;
 pub use walker::Walker;
-
-#[cfg(test)]
-mod case;
-#[cfg(test)]
-mod tests;

@@ -1,17 +1,22 @@
 use doc_model::{Kind, Look, NameText, NodeView, Verdict};
 use std::alloc::{AllocError, Global};
 
-/// A view that counts the calls on it.
+/// A view that counts the calls on it, and those of `name_is` apart; `told`, which does nothing, aside.
 #[derive(Drop)]
 pub struct Counting<V> {
     pub below: V,
     pub calls: u64,
+    pub names: u64,
 }
 
 impl<V: NodeView> NodeView for Counting<V> {
     ghost Mark = { V.Mark };
 
     ghost sees = { λ counting. V.sees counting.below };
+
+    fn told(&mut self) {
+        self.below.told();
+    }
 
     fn kind(&mut self, n: u32) -> Kind {
         self.calls = self.calls.saturating_add(1);
@@ -79,6 +84,7 @@ impl<V: NodeView> NodeView for Counting<V> {
     }
 
     fn name_is(&mut self, n: u32, uri: &[u8], local: Option<&[u8]>) -> bool {
+        self.names = self.names.saturating_add(1);
         self.calls = self.calls.saturating_add(1);
         self.below.name_is(n, uri, local)
     }

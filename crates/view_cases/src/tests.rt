@@ -13,6 +13,7 @@ use dtm_builder::Builder;
 use lists::List;
 use name_pool::Memory;
 use plain_columns::Plain;
+use shared_texts::Shared;
 use std::alloc::{AllocError, Global};
 use std::test::Fail;
 
@@ -70,16 +71,17 @@ fn nodes(alloc: Global, table: &Plain, n: u32, axis: Axis) -> Result<List<u32>, 
     walk(alloc, &mut table.view(), n, axis, &Test::Any)
 }
 
-// How many calls on the view a walk makes.
-fn calls(alloc: Global, table: &Plain, n: u32, axis: Axis) -> Result<u64, Ask>
+// How many calls on the view a walk makes, and how many of these ask for a name.
+fn calls(alloc: Global, table: &Plain, n: u32, axis: Axis, test: &Test) -> Result<(u64, u64), Ask>
     requires { IsJoined table.now.cells.steps n }
 {
     let mut view = Counting {
         below: table.view(),
         calls: 0,
+        names: 0,
     };
-    walk(alloc, &mut view, n, axis, &Test::Any)?;
-    Ok(view.calls)
+    walk(alloc, &mut view, n, axis, test)?;
+    Ok((view.calls, view.names))
 }
 
 // Rows of these kinds and depths.
@@ -91,7 +93,7 @@ fn rows_of_shapes(alloc: Global, shapes: &[(Kind, u32)]) -> Result<Vec<Row>, All
         rows.push(Row {
             kind: shape.0,
             prefix: List::new(alloc),
-            uri: List::new(alloc),
+            uri: Shared::empty(),
             local: List::new(alloc),
             value: List::new(alloc),
             depth: shape.1,
@@ -130,17 +132,19 @@ const ITEM_SHAPES: &[(Kind, u32)] = &[
     (Kind::Text, 3),
 ];
 
-const MIXED: &[u8] = b"?s d\n(a\n?t d\n-x\n(b\nAk 1\n)b\n-y\nXnote\n-z\n)a\n?u d";
+const MIXED: &[u8] = b"?s d\nCbefore\n(a\n?t d\n-x\n(b\nAk 1\n)b\n-y\nXnote\n-z\nCin\n)a\n?u d";
 
 const MIXED_SHAPES: &[(Kind, u32)] = &[
     (Kind::Root, 0),
     (Kind::Instruction, 1),
+    (Kind::Comment, 1),
     (Kind::Element, 1),
     (Kind::Instruction, 2),
     (Kind::Text, 2),
     (Kind::Element, 2),
     (Kind::Attribute, 3),
     (Kind::Text, 2),
+    (Kind::Comment, 2),
     (Kind::Instruction, 1),
 ];
 
@@ -229,9 +233,63 @@ fn calls_are_few_a_row(rt: HostRuntime) -> Result<(), Fail> {
     let list = first_below(&table, 1);
     assert_eq!(rt; list, 1);
     assert_eq!(rt; nodes(alloc, &table, list, Axis::Child)?.len(), 3_000);
-    assert_eq!(rt; calls(alloc, &table, list, Axis::Child)?, 3_001);
-    assert!(rt; calls(alloc, &table, list, Axis::Descendant)? <= 6_001);
+    let any = &Test::Any;
+    assert_eq!(rt; calls(alloc, &table, list, Axis::Child, any)?.0, 3_001);
+    assert!(rt; calls(alloc, &table, list, Axis::Descendant, any)?.0 <= 6_001);
+    for local in [b"a".as_slice(), b"l".as_slice()] {
+        let test = name_test(alloc, b"", local)?;
+        let (_, names) = calls(alloc, &table, list, Axis::Descendant, &test)?;
+        assert!(rt; names <= 2);
+    }
     Ok(())
+}
+
+// Each kind of node, in the namespace `u` and in none.
+const KINDS: &[u8] =
+    b"?s d\n(c:a\nAxmlns:c u\n?t d\nCnote\n-x\n(b\nAc:k 1\nAk 2\n)b\nCend\n)c:a\nCafter";
+
+// The rows below the root, and the attributes of the last element, that meet the test.
+fn met(alloc: Global, table: &Plain, test: &Test) -> Result<(List<u32>, List<u32>), Ask> {
+    let below = walk(alloc, &mut table.view(), 0, Axis::Descendant, test)?;
+    let count = row_count(table);
+    let mut attributes = List::new(alloc);
+    if 6 < count {
+        attributes = walk(alloc, &mut table.view(), 6, Axis::Attribute, test)?;
+    }
+    Ok((below, attributes))
+}
+
+#[test]
+fn every_kind_of_test_is_met_by_these_rows(rt: HostRuntime) -> Result<(), Fail> {
+    let alloc = rt.alloc();
+    let table = whole(alloc, KINDS)?;
+    let u = List::from_slice(alloc, b"u")?;
+    let cases: [(Test, &[u32], &[u32]); 11] = [
+        (Test::Any, &[1, 2, 3, 4, 5, 6, 9, 10], &[7, 8]),
+        (Test::Kind(Kind::Text), &[5], &[]),
+        (Test::Kind(Kind::Comment), &[4, 9, 10], &[]),
+        (Test::Kind(Kind::Instruction), &[1, 3], &[]),
+        (Test::AnyName, &[2, 6], &[7, 8]),
+        (Test::InUri(u.clone()?), &[2], &[7]),
+        (Test::InUri(List::new(alloc)), &[6], &[8]),
+        (name_test(alloc, b"u", b"a")?, &[2], &[]),
+        (name_test(alloc, b"", b"a")?, &[], &[]),
+        (name_test(alloc, b"u", b"k")?, &[], &[7]),
+        (Test::Target(List::from_slice(alloc, b"t")?), &[3], &[]),
+    ];
+    for (test, below, attributes) in cases {
+        let (found_below, found_attributes) = met(alloc, &table, &test)?;
+        assert_eq!(rt; found_below.as_slice(), below);
+        assert_eq!(rt; found_attributes.as_slice(), attributes);
+    }
+    Ok(())
+}
+
+fn name_test(alloc: Global, uri: &[u8], local: &[u8]) -> Result<Test, AllocError> {
+    Ok(Test::Name {
+        uri: List::from_slice(alloc, uri)?,
+        local: List::from_slice(alloc, local)?,
+    })
 }
 
 fn look(stream: &mut ChildStream, table: &Plain) -> Look

@@ -8,16 +8,19 @@ use crate::tests::{first_below, row_count};
 use doc_model::{Kind, NodeView, Row, value_by_filter};
 use lists::List;
 use plain_columns::Plain;
+use shared_texts::Shared;
 use std::alloc::{AllocError, Global};
 use std::test::Fail;
 use string_values::{Ask, value_of};
 use strip_rules::{StripRule, StripRules, StripView};
 
-// Texts of whitespace are stripped in all elements, or in all but those named `list`, or in none.
+// Texts of whitespace are stripped in all elements, or in all but those named `list`, or in all by a rule of
+// higher precedence than that for `list`, or in none.
 #[derive(Clone, Copy)]
 enum Stripped {
     All,
     AllButLists,
+    AllByPrecedence,
     None,
 }
 
@@ -30,18 +33,25 @@ fn rules(alloc: Global, stripped: Stripped) -> Result<StripRules, AllocError>
             strip: true,
             uri: None,
             local: None,
+            precedence: 0,
         })?,
-        Stripped::AllButLists => {
+        Stripped::AllButLists | Stripped::AllByPrecedence => {
             let list = List::from_slice(alloc, b"list")?;
+            let precedence = match stripped {
+                Stripped::AllByPrecedence => 1,
+                _ => 0,
+            };
             rules.push(StripRule {
                 strip: false,
                 uri: Some(List::new(alloc)),
                 local: Some(list),
+                precedence: 0,
             })?;
             rules.push(StripRule {
                 strip: true,
                 uri: None,
                 local: None,
+                precedence,
             })?;
         }
         Stripped::None => {}
@@ -78,7 +88,7 @@ fn rows_of_shapes(alloc: Global, shapes: &[Shape]) -> Result<Vec<Row>, AllocErro
         rows.push(Row {
             kind: shape.1,
             prefix: List::new(alloc),
-            uri: List::new(alloc),
+            uri: Shared::empty(),
             local: List::new(alloc),
             value: List::from_slice(alloc, shape.3)?,
             depth: shape.2,
@@ -159,22 +169,21 @@ const ALL_OF_SPACED: &[Shape] = &[
     (5, Kind::Text, 2, b"\n"),
 ];
 
+const STRIPPED_OF_SPACED: &[Shape] = &[
+    (0, Kind::Root, 0, b""),
+    (1, Kind::Element, 1, b""),
+    (3, Kind::Element, 2, b""),
+    (4, Kind::Text, 3, b"x"),
+];
+
 #[test]
 fn values_are_those_of_the_visible_rows(rt: HostRuntime) -> Result<(), Fail> {
     let alloc = rt.alloc();
-    let cases: [(&[u8], Stripped, &[Shape]); 5] = [
+    let cases: [(&[u8], Stripped, &[Shape]); 6] = [
         (SPACED, Stripped::None, ALL_OF_SPACED),
         (SPACED, Stripped::AllButLists, ALL_OF_SPACED),
-        (
-            SPACED,
-            Stripped::All,
-            &[
-                (0, Kind::Root, 0, b""),
-                (1, Kind::Element, 1, b""),
-                (3, Kind::Element, 2, b""),
-                (4, Kind::Text, 3, b"x"),
-            ],
-        ),
+        (SPACED, Stripped::All, STRIPPED_OF_SPACED),
+        (SPACED, Stripped::AllByPrecedence, STRIPPED_OF_SPACED),
         (
             KEPT_IN_LIST,
             Stripped::All,

@@ -1,4 +1,5 @@
-pub mod Fixed
-pub mod Indexing
-pub mod Places
-pub mod Views
+mod Fixed
+mod Indexing
+mod Numbered
+mod Places
+mod Views

@@ -35,3 +35,12 @@ resolved scopes prefix = unless_empty (uri_in prefix (all_bindings scopes))
 abbrev pub bound_in : List (List Binding) → Binding → List (List Binding)
 bound_in [] binding = (binding ∷ []) ∷ []
 bound_in (inner ∷ outer) binding = (binding ∷ inner) ∷ outer
+
+-- the URIs before the first declaration: the empty one and that of `xml`
+abbrev pub first_uris : List (List ℕ)
+first_uris = [] ∷ xml_binding.uri ∷ []
+
+-- scopes, and the URIs that were bound in them, each once, in the order of their first declarations after the first URIs
+pub record Scoped : Type 0 where
+  pub scopes : List (List Binding)
+  pub uris : List (List ℕ)

@@ -1,5 +1,5 @@
 -- What is kept of the scopes: all bindings in one list, where each scope begins, and an index of the prefixes.
-use Rattle.std.specs.Prelude.{◌≡◌, ℕ, ◌<◌, ◌≤◌, false, List, [], ◌∷◌, Option, Some, None, if◌then◌else◌, length, reverse, map, take, drop}
+use Rattle.std.specs.Prelude.{◌≡◌, ℕ, ◌<◌, ◌≤◌, false, List, [], ◌∷◌, Option, Some, None, if◌then◌else◌, length, reverse, map, take, drop, slice_get}
 use Rattle.std.specs.Str.{bytes_eq}
 use Rattle.std.specs.Ordering.{nat_cmp}
 use Rattle.std.specs.Cmp.Lexicographic.{slice_cmp}
@@ -51,8 +51,15 @@ KeepsFixed [] = ⊥
 KeepsFixed (declaration ∷ []) = declaration.binding ≡ xml_binding
 KeepsFixed (declaration ∷ earlier ∷ before) = (is_fixed declaration.binding.prefix ≡ false) × KeepsFixed (earlier ∷ before)
 
+-- each declaration has the number of its URI
+abbrev pub AreNumbered : List (List ℕ) → List Declaration → Type 0
+AreNumbered uris [] = Unit {0}
+AreNumbered uris (declaration ∷ declarations) = (slice_get uris declaration.number ≡ Some declaration.binding.uri) × AreNumbered uris declarations
+
 -- what holds of all that is kept
-pub record IsKept (starts : List ℕ) (declarations : List Declaration) (latest : Latest) : Type 0 where
+pub record IsKept (starts : List ℕ) (declarations : List Declaration) (latest : Latest) (uris : List (List ℕ)) : Type 0 where
   pub nested : AreStarts starts (length declarations)
   pub indexed : IsIndexed declarations latest
   pub fixed : KeepsFixed (reverse declarations)
+  pub empty : slice_get uris 0 ≡ Some []
+  pub numbered : AreNumbered uris declarations

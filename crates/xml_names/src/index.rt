@@ -1,18 +1,21 @@
 // The bindings in force, in the order in which they came, with an index of the latest of each prefix.
-ghost use Rattle.std.specs.Prelude.{◌≡◌, ◌++◌, ◌∷◌, [], ℕ, List, Option, IsSome, IfOk, OnOk, OnErr, take, if◌then◌else◌};
+ghost use Rattle.std.specs.Prelude.{◌≡◌, ◌++◌, ◌∷◌, [], ℕ, List, Option, Some, IsSome, IfOk, OnOk, OnErr, take, slice_get, if◌then◌else◌};
 ghost use Rattle.std.specs.Str.{bytes_eq};
 ghost use Rattle.xml_names.specs.Kept.{found, IsIndexed};
+ghost use Rattle.shared_texts.specs.Numbers.{Keeps, with_text};
 ghost use Rattle.xml_names.specs.declared.index.Declaration.{Declaration};
 
 use crate::scopes::Binding;
 use lists::List;
+use shared_texts::{NumberedText, TextStore};
 use std::alloc::{AllocError, Global};
 use std::collections::BTreeMap;
 
-/// A binding, and the place of the binding of the same prefix that it hides.
+/// A binding, the number of its URI, and the place of the binding of the same prefix that it hides.
 #[derive(Clone, Debug, Drop)]
 pub struct Declaration {
     pub binding: Binding,
+    pub number: u32,
     pub hidden: Option<usize>,
 }
 
@@ -21,22 +24,29 @@ pub fn declare(
     alloc: Global,
     declarations: &mut Vec<Declaration>,
     latest: &mut BTreeMap<Vec<u8>, usize>,
+    uris: &mut TextStore,
     prefix: &[u8],
     uri: &[u8],
 ) -> Result<(), AllocError>
     requires { IsIndexed declarations.old.items latest.old }
-    ensures ok { OnOk result ((hidden : Option ℕ) × (declarations.new.items ≡ declarations.old.items ++ record { binding = record { prefix = prefix.now; uri = uri.now }; hidden = hidden } ∷ [])) }
+    ensures ok { OnOk result ((hidden : Option ℕ) × (number : ℕ) × (slice_get uris.new number ≡ Some uri.now) × (uris.new ≡ with_text uris.old uri.now) × (declarations.new.items ≡ declarations.old.items ++ record { binding = record { prefix = prefix.now; uri = uri.now }; number = number; hidden = hidden } ∷ [])) }
+    ensures keeps { Keeps uris.old uris.new }
     ensures err { OnErr result (declarations.new.items ≡ declarations.old.items) }
     ensures indexed { IsIndexed declarations.new.items latest.new }
 {
     declarations.reserve(1)?;
+    let NumberedText { number, text } = uris.intern(alloc, uri)?;
     let binding = Binding {
         prefix: List::from_slice(alloc, prefix)?,
-        uri: List::from_slice(alloc, uri)?,
+        uri: text,
     };
     let key = Vec::from_slice(alloc, prefix)?;
     let hidden = latest.insert(key, declarations.len())?;
-    declarations.push_reserved(Declaration { binding, hidden });
+    declarations.push_reserved(Declaration {
+        binding,
+        number,
+        hidden,
+    });
     Ok(())
 }
 
@@ -59,20 +69,6 @@ pub fn withdraw(
             );
         }
     }
-}
-
-/// A copy of the bindings.
-pub fn copy_declarations(declarations: &Vec<Declaration>) -> Result<Vec<Declaration>, AllocError>
-    ensures { IfOk result (λ copy. copy.items ≡ declarations.now.items) }
-{
-    declarations.clone()
-}
-
-/// A copy of the index, which finds the same.
-pub fn copy_index(latest: &BTreeMap<Vec<u8>, usize>) -> Result<BTreeMap<Vec<u8>, usize>, AllocError>
-    ensures { IfOk result (λ copy. (prefix : List ℕ) → found prefix copy ≡ found prefix latest.now) }
-{
-    Ok(latest.clone()?)
 }
 
 // Turns the index back to the binding of this prefix that the latest one hid.

@@ -8,7 +8,4 @@ mod scopes;
 
 pub use innermost::innermost_scope_decides;
 pub use qname::split_qname;
-pub use scopes::{Binding, Scopes, is_fixed};
-
-#[cfg(test)]
-mod tests;
+pub use scopes::{Binding, NumberedUri, Scopes, is_fixed};

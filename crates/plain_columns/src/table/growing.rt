@@ -1,9 +1,11 @@
-ghost use Rattle.std.specs.Prelude.{◌≡◌, ◌<◌, ◌≤◌, ◌++◌, ◌∷◌, [], ⊤, vec_len, vec_capacity};
+ghost use Rattle.std.specs.Prelude.{◌≡◌, ◌+◌, ◌-◌, ◌<◌, ◌≤◌, ◌^◌, ◌++◌, ◌∷◌, [], ⊤, IfSome, length, replicate, vec_len, vec_capacity};
+ghost use Rattle.plain_columns.specs.Stored.{JoinsNoRoot};
 ghost use Rattle.plain_columns.specs.Link.{HowWithin, first_after, next_after, extent_after};
 
-use crate::entry::Entry;
+use crate::entry::{Entry, StoredEntry};
+use crate::stored_row::{StoredRow, place_in};
 use crate::table::Plain;
-use doc_model::{GrowCells, Join, NamePlace, PrefixPlace, Room, RowPlace, Verdict};
+use doc_model::{GrowCells, Join, NamePlace, PrefixPlace, Room, RowPlace, Verdict, text_place};
 
 impl GrowCells for Plain {
     ghost Mark = { ⊤ };
@@ -18,16 +20,14 @@ impl GrowCells for Plain {
         let names = self.names.len() - 3 + (self.prefixes.len() - 1);
         Room {
             rows: self.limits.rows - self.places.len() as u32,
-            text: self.limits.text - self.texts.len() as u64,
+            text: 7 * self.limits.text_words() - text_place(self.texts.len() as u64),
             names: self.limits.names - names as u32,
         }
     }
 
-    fn fill_text(&mut self, _at: u64, bytes: &[u8]) {
-        match self.texts.extend_from_slice(bytes) {
-            Ok(_) => {}
-            Err(_) => unreachable!(),
-        }
+    fn fill_text(&mut self, at: u64, bytes: &[u8]) {
+        fill_gap(&mut self.texts, at);
+        push_bytes(&mut self.texts, bytes);
     }
 
     fn fill_name(&mut self, _id: u32, name: &NamePlace) {
@@ -45,10 +45,7 @@ impl GrowCells for Plain {
     }
 
     fn fill_row(&mut self, _n: u32, row: &RowPlace) {
-        match self.places.push(*row) {
-            Ok(_) => {}
-            Err(_) => unreachable!(),
-        }
+        push_row(&mut self.places, row);
         push_unset(&mut self.first);
         push_unset(&mut self.next);
         push_unset(&mut self.extent);
@@ -56,7 +53,7 @@ impl GrowCells for Plain {
 
     fn join(&mut self, n: u32, how: Join) {
         set_link(&mut self.first, &mut self.next, n, how);
-        self.joined = n + 1 + self.places[n as usize].attr_count;
+        self.joined = n + 1 + place_in(&self.places, n).attr_count;
         push_entry(&mut self.log, Entry::Join(n));
     }
 
@@ -83,6 +80,29 @@ fn set_end(extent: &mut Vec<u32>, joined: u32, verdict: Verdict)
     }
 }
 
+// zeros up to the place of the next text
+fn fill_gap(texts: &mut Vec<u8>, at: u64)
+    requires behind { vec_len texts.old ≤ at }
+    requires near { at ≤ vec_len texts.old + 6 }
+    requires taken { at ≤ vec_capacity texts.old }
+    ensures items { texts.new.items ≡ texts.old.items ++ replicate (at - length texts.old.items) 0 }
+    ensures capacity { vec_capacity texts.old ≤ vec_capacity texts.new }
+{
+    let gap = at as usize - texts.len();
+    push_bytes(texts, &[0; 6][..gap]);
+}
+
+fn push_bytes(texts: &mut Vec<u8>, bytes: &[u8])
+    requires { vec_len texts.old + length bytes.now ≤ vec_capacity texts.old }
+    ensures items { texts.new.items ≡ texts.old.items ++ bytes.now }
+    ensures capacity { vec_capacity texts.old ≤ vec_capacity texts.new }
+{
+    match texts.extend_from_slice(bytes) {
+        Ok(_) => {}
+        Err(_) => unreachable!(),
+    }
+}
+
 fn push_unset(words: &mut Vec<u32>)
     requires { vec_len words.old < vec_capacity words.old }
     ensures items { words.new.items ≡ words.old.items ++ 0 ∷ [] }
@@ -94,12 +114,26 @@ fn push_unset(words: &mut Vec<u32>)
     }
 }
 
-fn push_entry(log: &mut Vec<Entry>, entry: Entry)
-    requires { vec_len log.old < vec_capacity log.old }
+fn push_row(places: &mut Vec<StoredRow>, row: &RowPlace)
+    requires taken { vec_len places.old < vec_capacity places.old }
+    requires text { row.now.text_at < 2 ^ 32 }
+    requires prev { IfSome row.now.prev (λ k. k + 1 < 2 ^ 32) }
+    ensures items { places.new.items ≡ places.old.items ++ row.now ∷ [] }
+    ensures capacity { vec_capacity places.old ≤ vec_capacity places.new }
+{
+    match places.push(StoredRow::of(row)) {
+        Ok(_) => {}
+        Err(_) => unreachable!(),
+    }
+}
+
+fn push_entry(log: &mut Vec<StoredEntry>, entry: Entry)
+    requires taken { vec_len log.old < vec_capacity log.old }
+    requires joins { JoinsNoRoot entry }
     ensures items { log.new.items ≡ log.old.items ++ entry ∷ [] }
     ensures capacity { vec_capacity log.old ≤ vec_capacity log.new }
 {
-    match log.push(entry) {
+    match log.push(StoredEntry::of(entry)) {
         Ok(_) => {}
         Err(_) => unreachable!(),
     }

@@ -9,6 +9,7 @@ ghost use Rattle.doc_model.specs.View.{Moves, FirstIs, NextIs, ExtentIs, EndedIs
 ghost use Rattle.plain_columns.specs.Look.{look_of};
 ghost use Rattle.plain_columns.specs.Seen.{seen_of, types_of};
 
+use crate::stored_row::place_in;
 use crate::table::Plain;
 use doc_model::{Kind, Look, Verdict};
 
@@ -25,21 +26,21 @@ impl Plain {
         requires { IsJoined self.now.cells.steps n }
         ensures { result ≡ (row_at (rows_of self.now.cells.steps) n).kind }
     {
-        self.places[n as usize].kind
+        place_in(&self.places, n).kind
     }
 
     pub(crate) fn type_of(&self, n: u32) -> u32
         requires { IsJoined self.now.cells.steps n }
         ensures { result ≡ slice_index (types_of self.now.cells) n }
     {
-        self.places[n as usize].type_id
+        place_in(&self.places, n).type_id
     }
 
     pub(crate) fn parent_of(&self, n: u32) -> Option<u32>
         requires { IsJoined self.now.cells.steps n }
         ensures { result ≡ parent_of (rows_of self.now.cells.steps) n }
     {
-        let place = self.places[n as usize];
+        let place = place_in(&self.places, n);
         if n == 0 { None } else { Some(place.parent) }
     }
 
@@ -47,21 +48,21 @@ impl Plain {
         requires { IsJoined self.now.cells.steps n }
         ensures { result ≡ prev_shown [] (rows_of self.now.cells.steps) n }
     {
-        self.places[n as usize].prev
+        place_in(&self.places, n).prev
     }
 
     pub(crate) fn attr_count_of(&self, n: u32) -> u32
         requires { IsJoined self.now.cells.steps n }
         ensures { result ≡ attr_count_of (rows_of self.now.cells.steps) n }
     {
-        self.places[n as usize].attr_count
+        place_in(&self.places, n).attr_count
     }
 
     pub(crate) fn first_of(&self, n: u32) -> Look
         requires { IsJoined self.now.cells.steps n }
         ensures { FirstIs (seen_of self.now.cells) (seen_of self.now.cells) n result }
     {
-        let place = self.places[n as usize];
+        let place = place_in(&self.places, n);
         link(self.first[n as usize], place.kind, self.extent[n as usize])
     }
 
@@ -69,7 +70,7 @@ impl Plain {
         requires { IsJoined self.now.cells.steps n }
         ensures { NextIs (seen_of self.now.cells) (seen_of self.now.cells) n result }
     {
-        let place = self.places[n as usize];
+        let place = place_in(&self.places, n);
         if n == 0 {
             return Look::Nothing;
         }
@@ -88,7 +89,7 @@ impl Plain {
         requires { IsJoined self.now.cells.steps n }
         ensures { ExtentIs self.now.cells.steps self.now.cells.steps n result }
     {
-        match self.places[n as usize].kind {
+        match place_in(&self.places, n).kind {
             Kind::Root | Kind::Element => {}
             _ => return Some(n + 1),
         }
@@ -108,7 +109,7 @@ impl Plain {
         requires { IsJoined self.now.cells.steps n }
         ensures { result.now ≡ (row_at (rows_of self.now.cells.steps) n).value }
     {
-        let place = self.places[n as usize];
+        let place = place_in(&self.places, n);
         bytes_at(&self.texts, place.text_at, place.text_len)
     }
 
@@ -116,7 +117,7 @@ impl Plain {
         requires { IsJoined self.now.cells.steps n }
         ensures { result.now ≡ (row_at (rows_of self.now.cells.steps) n).prefix }
     {
-        let place = self.places[n as usize];
+        let place = place_in(&self.places, n);
         let prefix = self.prefixes[place.prefix_id as usize];
         bytes_at(&self.texts, prefix.at, prefix.len)
     }
@@ -125,7 +126,7 @@ impl Plain {
         requires { IsJoined self.now.cells.steps n }
         ensures { result.now ≡ (row_at (rows_of self.now.cells.steps) n).uri }
     {
-        let place = self.places[n as usize];
+        let place = place_in(&self.places, n);
         let name = self.names[place.type_id as usize];
         bytes_at(&self.texts, name.uri_at, name.uri_len)
     }
@@ -134,7 +135,7 @@ impl Plain {
         requires { IsJoined self.now.cells.steps n }
         ensures { result.now ≡ (row_at (rows_of self.now.cells.steps) n).local }
     {
-        let place = self.places[n as usize];
+        let place = place_in(&self.places, n);
         let name = self.names[place.type_id as usize];
         bytes_at(&self.texts, name.local_at, name.local_len)
     }

@@ -1,7 +1,7 @@
 use Rattle.std.proofs.Common.{sym, subst}
 use Rattle.doc_model.specs.Answers.{Answers}
 use Rattle.doc_model.specs.Axes.{axis_of}
-use Rattle.axis_walkers.specs.Asks.{stop_of}
+use Rattle.doc_model.specs.Asks.{stop_of}
 use Rattle.axis_walkers.proofs.axis_walk.walk.Goals as goal
 
 pub itself-requires : goal.itself-requires

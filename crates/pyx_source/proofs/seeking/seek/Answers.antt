@@ -20,8 +20,8 @@ returns-in-Some-clause-found g c =
     let found = c.in-Some.ensures.found in
     rw c.in-Some.ensures.same (cuts_line c.args.pending.now c.reads.pending _ _ c.in-Some.at c.reads.invariant.moved found.0 found.1 found.2)
 
-pub returns-then-len-gt-LINE_LIMIT-clause-refused : goal.returns-then-len-gt-LINE_LIMIT-clause-refused
-returns-then-len-gt-LINE_LIMIT-clause-refused g c =
+pub returns-then-len-gt-READ_LIMIT-clause-refused : goal.returns-then-len-gt-READ_LIMIT-clause-refused
+returns-then-len-gt-READ_LIMIT-clause-refused g c =
     let same : c.line_feed.new.self ≡ c.reads.pending = c.in_default.ensures.same in
     let long : 1048576 < length c.reads.pending = rw (← same) (omega arith) in
     let few : c.args.line < 4294967295 = elim c.else-line-ge-LAST_LINE.branch [

@@ -6,7 +6,7 @@ abbrev pub invariant-reads : goal.invariant-reads
 invariant-reads g l = record {
   piece : vec_len l.piece ≡ 65536;
   moved : Moves l.initial.pending (g.S.Source.left l.initial.source) l.pending (g.S.Source.left l.source);
-  reads : ReadsOnlyForALine l.initial.pending (g.S.Source.left l.initial.source) (g.S.Source.left l.source);
+  reads : ReadsOnlyForALine l.initial.line l.initial.pending (g.S.Source.left l.initial.source) (g.S.Source.left l.source);
   later : g.S.Source.faults l.initial.source ≤ g.S.Source.faults l.source;
 }
 

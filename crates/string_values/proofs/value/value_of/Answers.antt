@@ -2,11 +2,11 @@ use Rattle.std.proofs.Common.{◌≡◌, ◌∙◌, false, sym, ap}
 use Rattle.doc_model.specs.Answers.{Known}
 use Rattle.doc_model.specs.Document.{is_parent}
 use Rattle.doc_model.specs.Rows.{rows_of, row_at}
-use Rattle.string_values.specs.Values.{string_value_of}
+use Rattle.doc_model.specs.Values.{string_value_of}
 use Rattle.doc_laws.proofs.Calls.{after_moves}
 use Rattle.doc_laws.proofs.Growth.{joined_grows}
 use Rattle.doc_laws.proofs.Moving.{moves_on}
-use Rattle.axis_walkers.specs.Asks.{stop_of}
+use Rattle.doc_model.specs.Asks.{stop_of}
 use Rattle.string_values.specs.Appended.{appended_to, given}
 use Rattle.string_values.proofs.Known.{own_value, parent_later}
 use Rattle.string_values.proofs.value.value_of.Goals as goal
@@ -27,16 +27,16 @@ returns-then-may_have_children-clause-answers g c =
 pub text-requires : goal.text-requires
 text-requires g c = joined_grows _ _ c.args.n c.kind.ensures.moves.grows c.requires
 
-pub returns-in-Ok-clause-moves : goal.returns-in-Ok-clause-moves
-returns-in-Ok-clause-moves g c = moves_on _ _ _ c.kind.ensures.moves c.text.ensures.moves
+pub returns-clause-moves : goal.returns-clause-moves
+returns-clause-moves g c = moves_on _ _ _ c.kind.ensures.moves c.text.ensures.moves
 
-pub returns-in-Ok-clause-answers : goal.returns-in-Ok-clause-answers
-returns-in-Ok-clause-answers g c =
+pub returns-clause-answers : goal.returns-clause-answers
+returns-clause-answers g c =
     let new = g.V.NodeView.sees c.text.new.self in
     let joined = joined_grows _ _ c.args.n c.kind.ensures.moves.grows c.requires in
     let leaf : is_parent (row_at (rows_of (g.V.NodeView.sees c.kind.new.self).steps) c.args.n).kind ≡ false = ap is_parent (sym c.kind.ensures.value) ∙ sym c.if-may_have_children.ensures in
     let later = parent_later (g.V.NodeView.sees c.kind.new.self).steps new.steps c.args.n false c.text.ensures.moves.grows joined leaf in
-    ap (appended_to c.args.into.now.items) (own_value new.rules new.steps c.args.n (joined_grows _ _ c.args.n c.text.ensures.moves.grows joined) later) ∙ ap (λ xs. Known xs) (sym c.in-Ok.ensures.value)
+    ap (appended_to c.args.into.now.items) (own_value new.rules new.steps c.args.n (joined_grows _ _ c.args.n c.text.ensures.moves.grows joined) later) ∙ ap (λ xs. Known xs) (sym c.in_ok-text.ensures.value)
 
-pub returns-in-Err-clause-moves : goal.returns-in-Err-clause-moves
-returns-in-Err-clause-moves g c = moves_on _ _ _ c.kind.ensures.moves c.text.ensures.moves
+pub returns-in_err-text-clause-moves : goal.returns-in_err-text-clause-moves
+returns-in_err-text-clause-moves g c = moves_on _ _ _ c.kind.ensures.moves c.text.ensures.moves

@@ -9,12 +9,12 @@ use Rattle.strip_rules.proofs.Ruling.{Ruled, ruled_first, ruled_lower, ruled_oth
 use Rattle.strip_rules.proofs.rules.best_strips.Goals as goal
 
 pub judge-init : goal.judge-init
-judge-init g c = record { moved = c.kind-kind.ensures.moves; ruled = ruled_first _ _ }
+judge-init g c = record { moved = c.told.ensures; ruled = ruled_first _ _ }
 
-pub judge-preserved-then-rank-best : goal.judge-preserved-then-rank-best
-judge-preserved-then-rank-best g c =
+pub judge-preserved-then-weight-best : goal.judge-preserved-then-weight-best
+judge-preserved-then-weight-best g c =
     let e = sym (get_or_read c.args.rules.now c.judge.rule-index c.rule-item.result c.judge-test.true c.rule-item.is c.rule-item.result) in
-    record { moved = c.judge.invariant.moved; ruled = ruled_lower _ _ _ _ _ c.rule-item.result c.judge-test.true e c.judge.invariant.ruled (omega (arith, c.rank-rank.ensures, c.if-rank-best.true)) }
+    record { moved = c.judge.invariant.moved; ruled = ruled_lower _ _ _ _ _ c.rule-item.result c.judge-test.true e c.judge.invariant.ruled (omega (arith, c.weight-weight.ensures, c.if-weight-best.true)) }
 
 pub fits-requires-clause-joined : goal.fits-requires-clause-joined
 fits-requires-clause-joined g c = joined_grows _ _ c.args.n c.judge.invariant.moved.grows c.requires.joined
@@ -37,10 +37,10 @@ judge-preserved g c =
     let j = joined_grows _ _ c.args.n c.judge.invariant.moved.grows c.requires.joined in
     let e = sym (get_or_read c.args.rules.now c.judge.rule-index c.rule-item.result c.judge-test.true c.rule-item.is c.rule-item.result) in
     let r = ruled_row _ _ _ _ _ _ (row_later _ _ c.args.n c.fits.ensures.moves.grows j) c.judge.invariant.ruled in
-    let k = ruled_better _ _ _ _ _ c.rule-item.result c.judge-test.true e r (sym c.if-not-fits.ensures.value) (omega (arith, c.rank-rank.ensures, c.if-rank-best.false)) in
+    let k = ruled_better _ _ _ _ _ c.rule-item.result c.judge-test.true e r (sym c.if-not-fits.ensures.value) (omega (arith, c.weight-weight.ensures, c.if-weight-best.false)) in
     record {
       moved = moves_on _ _ _ c.judge.invariant.moved c.fits.ensures.moves;
-      ruled = subst (λ b. Ruled c.args.rules.now (row_at (rows_of (g.V.NodeView.sees c.fits.new.view).steps) c.args.n) (c.judge.rule-index + 1) c.rule-item.result.strip b) (sym c.rank-rank.ensures) k;
+      ruled = subst (λ b. Ruled c.args.rules.now (row_at (rows_of (g.V.NodeView.sees c.fits.new.view).steps) c.args.n) (c.judge.rule-index + 1) c.rule-item.result.strip b) (sym c.weight-weight.ensures) k;
     }
 
 pub returns : goal.returns

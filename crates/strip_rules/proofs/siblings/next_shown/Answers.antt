@@ -6,7 +6,7 @@ use Rattle.strip_rules.proofs.Skips.{skip_within, skip_found, skip_on, skip_end,
 use Rattle.strip_rules.proofs.siblings.next_shown.Goals as goal
 
 pub pass-init : goal.pass-init
-pass-init g c = record { moved = c.kind-kind.ensures.moves; passes = passes_none_yet _ _ _ (joined_grows _ _ _ c.kind-kind.ensures.moves.grows c.requires.joined) }
+pass-init g c = record { moved = c.told.ensures; passes = passes_none_yet _ _ _ (joined_grows _ _ _ c.told.ensures.grows c.requires.joined) }
 
 pub next-requires : goal.next-requires
 next-requires g c = c.pass.invariant.passes.within

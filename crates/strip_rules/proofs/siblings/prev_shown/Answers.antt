@@ -6,7 +6,7 @@ use Rattle.strip_rules.proofs.Skips.{back_within, back_found, back_on, back_end}
 use Rattle.strip_rules.proofs.siblings.prev_shown.Goals as goal
 
 pub back-init : goal.back-init
-back-init g c = record { moved = c.kind-kind.ensures.moves; returning = returns_none_yet _ _ _ (joined_grows _ _ _ c.kind-kind.ensures.moves.grows c.requires.joined) }
+back-init g c = record { moved = c.told.ensures; returning = returns_none_yet _ _ _ (joined_grows _ _ _ c.told.ensures.grows c.requires.joined) }
 
 pub prev-requires : goal.prev-requires
 prev-requires g c = let r = c.back.invariant.returning in omega (arith, r.within, r.order)

@@ -10,7 +10,7 @@ use Rattle.strip_rules.proofs.Spacing.{keeping_first, keeping_end, keeping_up, k
 use Rattle.strip_rules.proofs.spaces.keeps_space.Goals as goal
 
 pub up-init : goal.up-init
-up-init g c = record { moved = c.kind-kind.ensures.moves; keeping = keeping_first _ _ }
+up-init g c = record { moved = c.told.ensures; keeping = keeping_first _ _ }
 
 pub parent-requires : goal.parent-requires
 parent-requires g c =

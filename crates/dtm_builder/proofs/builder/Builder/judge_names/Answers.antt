@@ -35,3 +35,7 @@ returns-in-None-clause-good c limits cells all k adds =
 pub returns-in-None-clause-names : goal.returns-in-None-clause-names
 returns-in-None-clause-names c limits cells all k adds =
     c.with-all.ensures (table_names (rows_of cells.steps ++ element_rows c.args.events.now)) all (c.in-Ok.ensures.names limits cells k.written k.names) adds
+
+pub returns-in-None-clause-element : goal.returns-in-None-clause-element
+returns-in-None-clause-element c limits cells k =
+    subst (λ (l : Limits). started_flaw l (rows_of cells.steps) c.args.events.now c.args.text ≡ None) k.limited (c.in-Ok.ensures.good limits cells k.written k.names)

@@ -1,8 +1,9 @@
-use Rattle.std.proofs.Common.{◌∙◌, List, [], ◌∷◌, refl, sym, subst}
+use Rattle.std.proofs.Common.{◌∙◌, List, [], ◌∷◌, refl, ap, sym, subst}
 use Rattle.std.proofs.lemmas.List.{take_all}
 use Rattle.doc_model.specs.declared.limits.Limits.{Limits}
 use Rattle.doc_model.specs.declared.row.Row.{Row}
 use Rattle.doc_model.specs.Cells.{Columns}
+use Rattle.doc_model.specs.Document.{document_of}
 use Rattle.node_writer.specs.Filler.{FillerStands, RowsFit, RowsFilled}
 use Rattle.node_writer.proofs.Filling.{none_filled}
 use Rattle.node_writer.proofs.Attributes.{attribute_links, item_given, item_fits, item_links, item_filled}
@@ -25,6 +26,7 @@ row-requires g c =
     let within = c.loop-attribute-test.true in
     let same = sym c.loop-attribute.invariant.limits in
     record {
+      going = ap (λ steps. (document_of steps).ended) c.loop-attribute.invariant.steps ∙ c.requires.going;
       stands = subst (λ (l : Limits). FillerStands c.loop-attribute.self l now) same filled.stands;
       given = item_given c.args.self.now c.loop-attribute.self limits before now c.args.attributes.now c.loop-attribute.attribute-index c.args.n c.attribute-item.result within c.attribute-item.is _ c.requires.carried;
       fits = subst (λ (l : Limits). RowsFit c.loop-attribute.self l (c.attribute-item.result ∷ [])) same

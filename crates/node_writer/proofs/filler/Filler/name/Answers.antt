@@ -1,6 +1,7 @@
 use Rattle.std.proofs.Common.{ap, ◌∙◌, refl, arith, Err}
 use Rattle.name_pool.specs.Names.{Name}
 use Rattle.node_writer.proofs.Numbering.{new_name_fits, kept_name, is_new_name, new_is_fresh, new_name_filled}
+use Rattle.node_writer.proofs.Places.{words_few}
 use Rattle.node_writer.proofs.filler.Filler.name.Goals as goal
 
 pub unreachable-requires : goal.unreachable-requires
@@ -25,6 +26,15 @@ new_name-requires-clause-room g c =
     let name : Name = record { kind = c.args.kind; uri = c.args.uri.now; local = c.args.local.now } in
     let new = is_new_name _ _ _ c.requires.stands name c.intern.new.self c.in-Ok.id c.in-Ok.ensures.ok c.if-id-self.false in
     (new_name_fits _ _ _ c.requires.stands name c.requires.fits (new.0)).room
+
+pub new_name-requires-clause-counted : goal.new_name-requires-clause-counted
+new_name-requires-clause-counted g c =
+    let name : Name = record { kind = c.args.kind; uri = c.args.uri.now; local = c.args.local.now } in
+    let new = is_new_name _ _ _ c.requires.stands name c.intern.new.self c.in-Ok.id c.in-Ok.ensures.ok c.if-id-self.false in
+    (new_name_fits _ _ _ c.requires.stands name c.requires.fits (new.0)).counted
+
+pub new_name-requires-clause-words : goal.new_name-requires-clause-words
+new_name-requires-clause-words g c = words_few _ c.requires.stands.small c.requires.stands.rows_small c.requires.stands.few
 
 pub new_name-requires-clause-fresh : goal.new_name-requires-clause-fresh
 new_name-requires-clause-fresh g c =

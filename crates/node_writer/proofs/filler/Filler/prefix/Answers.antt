@@ -1,5 +1,6 @@
 use Rattle.std.proofs.Common.{ap, ◌∙◌, refl, arith, Err}
 use Rattle.node_writer.proofs.Numbering.{new_prefix_fits, kept_prefix, is_new_prefix, new_prefix_filled}
+use Rattle.node_writer.proofs.Places.{words_few}
 use Rattle.node_writer.proofs.filler.Filler.prefix.Goals as goal
 
 pub unreachable-requires : goal.unreachable-requires
@@ -18,6 +19,14 @@ pub new_prefix-requires-clause-room : goal.new_prefix-requires-clause-room
 new_prefix-requires-clause-room g c =
     let new = is_new_prefix _ _ _ c.requires.stands c.args.prefix.now c.prefix.new.self c.in-Ok.id c.in-Ok.ensures.ok c.if-id-self.false in
     (new_prefix_fits _ _ _ c.requires.stands c.args.prefix.now c.requires.fits (new.0)).room
+
+pub new_prefix-requires-clause-counted : goal.new_prefix-requires-clause-counted
+new_prefix-requires-clause-counted g c =
+    let new = is_new_prefix _ _ _ c.requires.stands c.args.prefix.now c.prefix.new.self c.in-Ok.id c.in-Ok.ensures.ok c.if-id-self.false in
+    (new_prefix_fits _ _ _ c.requires.stands c.args.prefix.now c.requires.fits (new.0)).counted
+
+pub new_prefix-requires-clause-words : goal.new_prefix-requires-clause-words
+new_prefix-requires-clause-words g c = words_few _ c.requires.stands.small c.requires.stands.rows_small c.requires.stands.few
 
 pub returns-clause-ok : goal.returns-clause-ok
 returns-clause-ok g c =

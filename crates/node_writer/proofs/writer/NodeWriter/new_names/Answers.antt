@@ -1,5 +1,5 @@
 use Rattle.std.proofs.Common.{◌≡◌, ◌+◌, List, [], ◌∷◌, ◌++◌, take, refl, ap, sym, ◌∙◌, subst, append-nil}
-use Rattle.std.proofs.lemmas.List.{take_more}
+use Rattle.std.proofs.lemmas.List.{take_all, take_more}
 use Rattle.doc_model.specs.declared.row.Row.{Row}
 use Rattle.doc_model.specs.Rows.{rows_of}
 use Rattle.node_writer.specs.declared.new_names.NewNames.{NewNames}
@@ -32,3 +32,7 @@ loop-at-preserved c limits cells s =
     (c.is_type_new_after-name.ensures limits cells s)
     (c.is_prefix_new_after-prefix.ensures limits cells s)
     (record { count = c.with_row-new-in-loop-at.ensures.count; bytes = c.with_row-new-in-loop-at.ensures.bytes }))
+
+pub returns : goal.returns
+returns c limits cells s =
+    subst (λ (all : List Row). AddsNames (rows_of cells.steps) (c.args.row.now ∷ all) c.loop-at.new) (take_all c.loop-at.at c.args.attributes.now c.loop-at-test.false) (c.loop-at.invariant limits cells s)

@@ -3,6 +3,7 @@ use Rattle.doc_model.specs.declared.limits.Limits.{Limits}
 use Rattle.doc_model.specs.declared.step.Step.{Step}
 use Rattle.doc_model.specs.declared.step.Step.TheVariants.{Node}
 use Rattle.doc_model.specs.Cells.{Cells, Columns}
+use Rattle.doc_model.specs.Document.{document_of}
 use Rattle.doc_model.specs.Legal.{how_of}
 use Rattle.node_writer.specs.declared.filler.Links.{Links}
 use Rattle.node_writer.specs.declared.open_row.OpenRow.{OpenRow}
@@ -23,6 +24,7 @@ row-requires g c =
     let cells = g.C.GrowCells.cells c.args.c.now in
     let links : OpenRow → Links = λ o. record { parent = o.row; prev = o.last; attributes = length c.args.attributes.now } in
     record {
+      going = c.requires.going;
       stands = c.requires.stands.filler;
       given = row_is_given w limits cells c.args.row.now c.args.attributes.now c.requires.stands c.requires.going c.requires.may c.requires.room;
       fits = row_fits w limits cells c.args.row.now c.args.attributes.now c.requires.stands c.requires.going c.requires.may c.requires.room;
@@ -38,6 +40,7 @@ attributes-requires g c =
     let columns : Columns = (g.C.GrowCells.cells c.row.new.c).columns in
     let same = sym c.row.ensures.limits in
     record {
+      going = ap (λ steps. (document_of steps).ended) c.row.ensures.steps ∙ c.requires.going;
       stands = subst (λ (l : Limits). FillerStands c.row.new.self l columns) same c.in_ok-row.ensures.ok.stands;
       parent = row_is_there w limits cells c.args.row.now c.args.attributes.now c.requires.stands c.requires.going c.requires.may c.requires.room c.row.new.self columns _ c.in_ok-row.ensures.ok;
       carried = attributes_carried w limits cells c.args.row.now c.args.attributes.now c.requires.stands c.requires.going c.requires.may c.requires.room c.row.new.self columns _ c.in_ok-row.ensures.ok;

@@ -2,7 +2,6 @@ use Rattle.std.proofs.Common.{◌∙◌, ◌<◌, Some, length, sym, ap, subst, 
 use Rattle.std.proofs.lemmas.List.{get_or_read}
 use Rattle.doc_model.specs.declared.places.RowPlace.{RowPlace}
 use Rattle.doc_model.specs.declared.row.Row.{Row}
-use Rattle.doc_model.specs.Cells.{root_place}
 use Rattle.doc_model.specs.Document.{is_attribute}
 use Rattle.doc_model.specs.Lawful.{IsJoined}
 use Rattle.doc_model.specs.Rows.{rows_of}
@@ -22,13 +21,13 @@ returns c =
     let steps = steps_of (columns_of p) p.log.items p.verdict in
     let joined : n < length (rows_of steps) = subst (λ (t : Table). IsJoined t.cells.steps n) (sym c.self.view_is) c.requires in
     let within : n < length p.places.items = omega (arith, h.placed.joined, h.placed.within) in
-    let place = get_or_read p.places.items n c.index-place.result.now within c.index-place.ensures root_place in
+    let place = c.place_in-place.ensures in
     let parent_in = h.spelled.rows n within in
     let parent = ap (λ (q : RowPlace). q.parent) place in
     let w = get_or_read p.next.items n c.index.result.now (omega (arith, h.has_words.nexts)) c.index.ensures 0 in
-    let e = get_or_read p.extent.items c.index-place.result.now.parent c.index-2.result.now (omega (arith, h.has_words.extents, parent, parent_in.parent)) c.index-2.ensures 0 in
+    let e = get_or_read p.extent.items c.place_in-place.result.parent c.index-2.result.now (omega (arith, h.has_words.extents, parent, parent_in.parent)) c.index-2.ensures 0 in
     let kind = ap (λ (r : Row). r.kind) (h.placed.rows n joined) ∙ ap (λ (q : RowPlace). q.kind) (sym place) in
     let up = h.placed.parents n (omega arith) joined ∙ ap (λ k. Some k) (sym parent) in
     let inner = ap is_attribute kind ∙ inner_kind _ c.in_default.not-Attribute in
     subst (λ (t : Table). NextIs (seen_of t.cells) (seen_of t.cells) n c.link.result) c.self.view_is
-    (rw (c.link.ensures, w, e) (next_look steps _ _ _ _ h.words n c.index-place.result.now.parent joined inner up))
+    (rw (c.link.ensures, w, e) (next_look steps _ _ _ _ h.words n c.place_in-place.result.parent joined inner up))

@@ -1,7 +1,6 @@
 use Rattle.std.proofs.Common.{◌≡◌, ◌∙◌, ◌+◌, suc, [], ◌∷◌, length, sym, ap, subst, arith, length-append}
-use Rattle.std.proofs.lemmas.List.{get_or_read}
 use Rattle.doc_model.specs.declared.places.RowPlace.{RowPlace}
-use Rattle.doc_model.specs.Cells.{root_place, node_at, place_at}
+use Rattle.doc_model.specs.Cells.{node_at, place_at}
 use Rattle.doc_model.specs.Document.{document_of}
 use Rattle.doc_model.specs.Legal.{JoinFits}
 use Rattle.doc_laws.proofs.Growth.{document_of-push}
@@ -40,14 +39,14 @@ invariant_of-self c =
     let b = c.set_link.ensures.next in
     let same : n ≡ p.joined = fits.next ∙ sym h.placed.joined in
     let placed = placed_join (columns_of p) steps n how h.words.lawful (subst (λ k. Placed (columns_of p) steps k) (sym same) h.placed) fits in
-    let count : n + suc (place_at (columns_of p) n).attr_count ≡ n + 1 + c.index.result.now.attr_count =
-    let q = get_or_read p.places.items n c.index.result.now (omega (arith, fits.filled)) c.index.ensures root_place in
+    let count : n + suc (place_at (columns_of p) n).attr_count ≡ n + 1 + c.place_in.result.attr_count =
+    let q = c.place_in.ensures in
     omega (arith, ap (λ (q : RowPlace). q.attr_count) q) in
     record {
       spelled = record { names = h.spelled.names; prefixes = h.spelled.prefixes; rows = h.spelled.rows; distinct = h.spelled.distinct; entries = subst (λ xs. LogFits (columns_of p) xs) (sym e) (LogFits-push (columns_of p) p.log.items (Join n) h.spelled.entries fits.filled) };
       words = subst (λ xs. WordsHold xs c.set_link.new.first.items c.set_link.new.next.items p.extent.items p.verdict) (sym s)
           (rw (a, b) (words_join (columns_of p) steps n how _ _ _ _ h.words fits (omega (arith, h.has_words.firsts)) (omega (arith, h.has_words.nexts))));
-      placed = subst (λ xs. Placed (columns_of p) xs (n + 1 + c.index.result.now.attr_count)) (sym s) (rw (← count) placed);
+      placed = subst (λ xs. Placed (columns_of p) xs (n + 1 + c.place_in.result.attr_count)) (sym s) (rw (← count) placed);
       few = subst (λ xs. FewSteps (document_of xs) (length c.push_entry.new.log.items)) (sym s) (subst (λ q. FewSteps q (length c.push_entry.new.log.items)) (sym r) (rw len few));
       texts = h.texts;
       places = h.places;

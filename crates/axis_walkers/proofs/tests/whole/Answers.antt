@@ -1,7 +1,0 @@
-use Rattle.std.proofs.Common.{ap, length}
-use Rattle.doc_model.specs.Cells.{Cells}
-use Rattle.doc_model.specs.Rows.{rows_of}
-use Rattle.axis_walkers.proofs.tests.whole.Goals as goal
-
-pub returns : goal.returns
-returns c = ap (λ (cells : Cells). length (rows_of cells.steps)) c.end_two_items.ensures.cells
