@@ -20,7 +20,8 @@ value_is c h = grind (arith, nat_tests)
 capped : (m v d cap : ℕ) → m ≡ min v cap → min (m * 10 + d) cap ≡ min (v * 10 + d) cap
 capped m v d cap e = omega arith
 
-pub digit_more : (ds : List ℕ) (i m cap : ℕ) → list_all is_ascii_digit ds ≡ true → i < length ds → m ≡ min (digits_value 10 (take i ds)) cap → min (m * 10 + (get_or ds i 0 - 48)) cap ≡ min (digits_value 10 (take (i + 1) ds)) cap
+pub digit_more : (ds : List ℕ) (i m cap : ℕ) → list_all is_ascii_digit ds ≡ true → i < length ds → m ≡ min (digits_value 10 (take i ds)) cap
+    → min (m * 10 + (get_or ds i 0 - 48)) cap ≡ min (digits_value 10 (take (i + 1) ds)) cap
 digit_more ds i m cap all h e =
     let is : digit_value (get_or ds i 0) ≡ get_or ds i 0 - 48 = value_is (get_or ds i 0) (in_digits (get_or ds i 0) (digit_at ds i (is_ascii_digit (get_or ds i 0)) all h refl)) in
     capped m (digits_value 10 (take i ds)) (get_or ds i 0 - 48) cap e

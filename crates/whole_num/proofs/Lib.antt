@@ -3,3 +3,4 @@ mod Numerals
 mod Digits
 mod Printed
 mod Quotients
+mod Remainders

@@ -11,7 +11,8 @@ use Rattle.whole_num.specs.declared.number.Num.TheVariants.{NaN, Whole}
 use Rattle.whole_num.specs.declared.number.NumFault.{NumFault}
 use Rattle.whole_num.specs.declared.number.NumFault.TheVariants.{NumberRange, Fraction}
 use Rattle.whole_num.specs.Number.{greatest, IsNumber}
-use Rattle.whole_num.specs.Text.{is_space, sign, Fractional, absent, present, IsNumeral, is_nonzero, with_sign, value_of, Reads, numeral, other, behind_while, number_at_end, number_from_point, number_from_digits, number_from_sign, number_of}
+use Rattle.whole_num.specs.Text.{is_space, sign, Fractional, absent, present, IsNumeral, is_nonzero, with_sign, value_of, Reads, numeral, other}
+use Rattle.whole_num.specs.Text.{behind_while, number_at_end, number_from_point, number_from_digits, number_from_sign, number_of}
 use Rattle.whole_num.proofs.Parts.{Stops, no_more, fails, head_passes, front_is, behind_is, front_and_behind, front_passes}
 
 space_is_no_digit : (b : ℕ) → is_space b ≡ true → is_ascii_digit b ≡ false
@@ -35,7 +36,8 @@ point_stops point fraction behind absent all = space_stops behind all
 point_stops point fraction behind (present ds digits) all = fails 46 (ds ++ behind) refl
 
 -- a numeral's value stands at its end
-end_is : (negative : Bool) (whole fraction rest : List ℕ) → list_all is_space rest ≡ true → 0 < length whole + length fraction → number_at_end negative whole fraction rest ≡ value_of negative whole fraction
+end_is : (negative : Bool) (whole fraction rest : List ℕ) → list_all is_space rest ≡ true → 0 < length whole + length fraction
+    → number_at_end negative whole fraction rest ≡ value_of negative whole fraction
 end_is negative whole fraction rest all some =
     let few : nat_lt 0 (length whole + length fraction) ≡ true = grind (arith, nat_tests) in
     ap (λ a. if a && nat_lt 0 (length whole + length fraction) then value_of negative whole fraction else Ok NaN) all
@@ -43,15 +45,19 @@ end_is negative whole fraction rest all some =
 
 without_point : (negative : Bool) (whole behind : List ℕ) → list_all is_space behind ≡ true → number_from_point negative whole behind ≡ number_at_end negative whole [] behind
 without_point negative whole [] all = refl
-without_point negative whole (b ∷ bs) all = ap (λ a. if a then number_at_end negative whole (take_while is_ascii_digit bs) (behind_while is_ascii_digit bs) else number_at_end negative whole [] (b ∷ bs)) (space_is_no_point b (head_passes is_space b bs all))
+without_point negative whole (b ∷ bs) all = ap (λ a.
+    if a then number_at_end negative whole (take_while is_ascii_digit bs) (behind_while is_ascii_digit bs) else number_at_end negative whole [] (b ∷ bs))
+    (space_is_no_point b (head_passes is_space b bs all))
 
-point_is : (negative : Bool) (whole point fraction behind : List ℕ) → Fractional point fraction → list_all is_space behind ≡ true → number_from_point negative whole (point ++ behind) ≡ number_at_end negative whole fraction behind
+point_is : (negative : Bool) (whole point fraction behind : List ℕ) → Fractional point fraction → list_all is_space behind ≡ true
+    → number_from_point negative whole (point ++ behind) ≡ number_at_end negative whole fraction behind
 point_is negative whole point fraction behind absent all = without_point negative whole behind all
 point_is negative whole point fraction behind (present ds digits) all =
     ap (λ front. number_at_end negative whole front (behind_while is_ascii_digit (ds ++ behind))) (front_is is_ascii_digit ds behind digits (space_stops behind all))
     ∙ ap (number_at_end negative whole ds) (behind_is is_ascii_digit ds behind digits (space_stops behind all))
 
-digits_are : (negative : Bool) (whole rest : List ℕ) → list_all is_ascii_digit whole ≡ true → Stops is_ascii_digit rest → number_from_digits negative (whole ++ rest) ≡ number_from_point negative whole rest
+digits_are : (negative : Bool) (whole rest : List ℕ) → list_all is_ascii_digit whole ≡ true → Stops is_ascii_digit rest
+    → number_from_digits negative (whole ++ rest) ≡ number_from_point negative whole rest
 digits_are negative whole rest digits stops =
     ap (λ front. number_from_point negative front (behind_while is_ascii_digit (whole ++ rest))) (front_is is_ascii_digit whole rest digits stops)
     ∙ ap (number_from_point negative whole) (behind_is is_ascii_digit whole rest digits stops)
@@ -99,32 +105,58 @@ and_both : (a b : Bool) → (a && b) ≡ true → (a ≡ true) × (b ≡ true)
 and_both true b e = (refl, e)
 and_both false b e = cc
 
-by_test : (text before whole point fraction rest : List ℕ) (negative : Bool) → text ≡ before ++ (sign negative ++ (whole ++ (point ++ rest))) → list_all is_space before ≡ true → list_all is_ascii_digit whole ≡ true → Fractional point fraction → (a : Bool) → (list_all is_space rest && nat_lt 0 (length whole + length fraction)) ≡ a → Found text (if a then value_of negative whole fraction else Ok NaN)
+by_test : (text before whole point fraction rest : List ℕ) (negative : Bool) → text ≡ before ++ (sign negative ++ (whole ++ (point ++ rest)))
+    → list_all is_space before ≡ true → list_all is_ascii_digit whole ≡ true → Fractional point fraction → (a : Bool)
+    → (list_all is_space rest && nat_lt 0 (length whole + length fraction)) ≡ a → Found text (if a then value_of negative whole fraction else Ok NaN)
 by_test text before whole point fraction rest negative is spaces digits fractional false e = inl refl
 by_test text before whole point fraction rest negative is spaces digits fractional true e =
     let both = and_both (list_all is_space rest) (nat_lt 0 (length whole + length fraction)) e in
     let some : 0 < length whole + length fraction = grind (arith, nat_tests, both.1) in
-    inr (negative, whole, fraction, record { before = before; point = point; behind = rest; spelled = is; space_before = spaces; digits = digits; fractional = fractional; some_digit = some; space_behind = both.0 }, refl)
+    inr (
+      negative,
+      whole,
+      fraction,
+      record {
+        before = before;
+        point = point;
+        behind = rest;
+        spelled = is;
+        space_before = spaces;
+        digits = digits;
+        fractional =
+            fractional;
+        some_digit = some;
+        space_behind = both.0;
+      },
+      refl,
+    )
 
-end_found : (text before whole point fraction rest : List ℕ) (negative : Bool) → text ≡ before ++ (sign negative ++ (whole ++ (point ++ rest))) → list_all is_space before ≡ true → list_all is_ascii_digit whole ≡ true → Fractional point fraction → Found text (number_at_end negative whole fraction rest)
-end_found text before whole point fraction rest negative is spaces digits fractional = by_test text before whole point fraction rest negative is spaces digits fractional (list_all is_space rest && nat_lt 0 (length whole + length fraction)) refl
+end_found : (text before whole point fraction rest : List ℕ) (negative : Bool) → text ≡ before ++ (sign negative ++ (whole ++ (point ++ rest)))
+    → list_all is_space before ≡ true → list_all is_ascii_digit whole ≡ true → Fractional point fraction → Found text (number_at_end negative whole fraction rest)
+end_found text before whole point fraction rest negative is spaces digits fractional =
+    by_test text before whole point fraction rest negative is spaces digits fractional (list_all is_space rest && nat_lt 0 (length whole + length fraction)) refl
 
-by_point : (text before whole : List ℕ) (b : ℕ) (bs : List ℕ) (negative : Bool) → text ≡ before ++ (sign negative ++ (whole ++ (b ∷ bs))) → list_all is_space before ≡ true → list_all is_ascii_digit whole ≡ true → (a : Bool) → (b == 46) ≡ a → Found text (if a then number_at_end negative whole (take_while is_ascii_digit bs) (behind_while is_ascii_digit bs) else number_at_end negative whole [] (b ∷ bs))
+by_point : (text before whole : List ℕ) (b : ℕ) (bs : List ℕ) (negative : Bool) → text ≡ before ++ (sign negative ++ (whole ++ (b ∷ bs)))
+    → list_all is_space before ≡ true → list_all is_ascii_digit whole ≡ true → (a : Bool) → (b == 46) ≡ a
+    → Found text (if a then number_at_end negative whole (take_while is_ascii_digit bs) (behind_while is_ascii_digit bs) else number_at_end negative whole [] (b ∷ bs))
 by_point text before whole b bs negative is spaces digits false e = end_found text before whole [] [] (b ∷ bs) negative is spaces digits absent
 by_point text before whole b bs negative is spaces digits true e =
     let front = take_while is_ascii_digit bs in let rest = behind_while is_ascii_digit bs in
     let parts : b ∷ bs ≡ 46 ∷ (front ++ rest) = ap (λ c. c ∷ bs) (eqb-true b 46 e) ∙ ap (λ cs. 46 ∷ cs) (front_and_behind is_ascii_digit bs) in
     end_found text before whole (46 ∷ front) front rest negative (is ∙ ap (λ cs. before ++ (sign negative ++ (whole ++ cs))) parts) spaces digits (present front (front_passes is_ascii_digit bs))
 
-point_found : (text before whole rest : List ℕ) (negative : Bool) → text ≡ before ++ (sign negative ++ (whole ++ rest)) → list_all is_space before ≡ true → list_all is_ascii_digit whole ≡ true → Found text (number_from_point negative whole rest)
+point_found : (text before whole rest : List ℕ) (negative : Bool) → text ≡ before ++ (sign negative ++ (whole ++ rest)) → list_all is_space before ≡ true
+    → list_all is_ascii_digit whole ≡ true → Found text (number_from_point negative whole rest)
 point_found text before whole [] negative is spaces digits = end_found text before whole [] [] [] negative is spaces digits absent
 point_found text before whole (b ∷ bs) negative is spaces digits = by_point text before whole b bs negative is spaces digits (b == 46) refl
 
 digits_found : (text before bs : List ℕ) (negative : Bool) → text ≡ before ++ (sign negative ++ bs) → list_all is_space before ≡ true → Found text (number_from_digits negative bs)
 digits_found text before bs negative is spaces =
-    point_found text before (take_while is_ascii_digit bs) (behind_while is_ascii_digit bs) negative (is ∙ ap (λ cs. before ++ (sign negative ++ cs)) (front_and_behind is_ascii_digit bs)) spaces (front_passes is_ascii_digit bs)
+    point_found text before (take_while is_ascii_digit bs) (behind_while is_ascii_digit bs) negative (is
+    ∙ ap (λ cs. before ++ (sign negative ++ cs)) (front_and_behind is_ascii_digit bs)) spaces (front_passes is_ascii_digit bs)
 
-by_sign : (text before : List ℕ) (b : ℕ) (bs : List ℕ) → text ≡ before ++ (b ∷ bs) → list_all is_space before ≡ true → (a : Bool) → (b == 45) ≡ a → Found text (if a then number_from_digits true bs else number_from_digits false (b ∷ bs))
+by_sign : (text before : List ℕ) (b : ℕ) (bs : List ℕ) → text ≡ before ++ (b ∷ bs) → list_all is_space before ≡ true → (a : Bool) → (b == 45) ≡ a
+    → Found text (if a then number_from_digits true bs else number_from_digits false (b ∷ bs))
 by_sign text before b bs is spaces false e = digits_found text before (b ∷ bs) false is spaces
 by_sign text before b bs is spaces true e = digits_found text before bs true (is ∙ ap (λ c. before ++ (c ∷ bs)) (eqb-true b 45 e)) spaces
 
@@ -143,7 +175,9 @@ never_nan false false z e = cc
 
 by_found : (text : List ℕ) (r : Result Num NumFault) → number_of text ≡ r → Found text r → Reads text r
 by_found text r is f = elim f [
-  | inl none ↦ other (λ negative whole fraction N. never_nan (list_any is_nonzero fraction) (nat_le (unsigned_abs (with_sign negative (digits_value 10 whole))) greatest) (with_sign negative (digits_value 10 whole)) (sym (numeral_is text negative whole fraction N) ∙ (is ∙ none))) none
+  | inl none ↦ other (λ negative whole fraction N.
+      never_nan (list_any is_nonzero fraction) (nat_le (unsigned_abs (with_sign negative (digits_value 10 whole))) greatest)
+      (with_sign negative (digits_value 10 whole)) (sym (numeral_is text negative whole fraction N) ∙ (is ∙ none))) none
   | inr g ↦ numeral g.0 g.1 g.2 g.3 g.4
 ]
 

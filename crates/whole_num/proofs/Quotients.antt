@@ -20,7 +20,9 @@ abs_rem : (a b : ℤ) → unsigned_abs (int_rem a b) ≡ unsigned_abs a % unsign
 abs_rem (pos n) b = refl
 abs_rem (negsuc n) b = abs_neg (suc n % unsigned_abs b)
 
-whole_in : (a b z : ℤ) (d e r q : Bool) → is_zero (int_rem a b) ≡ r → (if d then (if e then Ok NaN else Err NumberRange) else if r then (if q then Ok (Whole (int_div a b)) else Err NumberRange) else Err Fraction) ≡ Ok (Whole z) → z *ℤ b ≡ a
+whole_in : (a b z : ℤ) (d e r q : Bool) → is_zero (int_rem a b) ≡ r
+    → (if d then (if e then Ok NaN else Err NumberRange) else if r then (if q then Ok (Whole (int_div a b)) else Err NumberRange) else Err Fraction) ≡ Ok
+    (Whole z) → z *ℤ b ≡ a
 whole_in a b z true true r q zero_rem is = cc
 whole_in a b z true false r q zero_rem is = cc
 whole_in a b z false e false q zero_rem is = cc
@@ -34,7 +36,9 @@ whole_in a b z false e true true zero_rem is =
 pub whole_is : (a b z : ℤ) → quotient a b ≡ Ok (Whole z) → z *ℤ b ≡ a
 whole_is a b z is = whole_in a b z (is_zero b) (is_zero a) (is_zero (int_rem a b)) (nat_le (unsigned_abs (int_div a b)) greatest) refl is
 
-fraction_in : (a b z : ℤ) (d e r q : Bool) → is_zero (int_rem a b) ≡ r → (if d then (if e then Ok NaN else Err NumberRange) else if r then (if q then Ok (Whole (int_div a b)) else Err NumberRange) else Err Fraction) ≡ Err Fraction → z *ℤ b ≡ a → ⊥
+fraction_in : (a b z : ℤ) (d e r q : Bool) → is_zero (int_rem a b) ≡ r
+    → (if d then (if e then Ok NaN else Err NumberRange) else if r then (if q then Ok (Whole (int_div a b)) else Err NumberRange) else Err Fraction) ≡ Err
+    Fraction → z *ℤ b ≡ a → ⊥
 fraction_in a b z true true r q zero_rem is product = cc
 fraction_in a b z true false r q zero_rem is product = cc
 fraction_in a b z false e true false zero_rem is product = cc

@@ -1,5 +1,5 @@
 -- Numbers, and what the arithmetic on them gives (XPath 1.0, 3.5 and 4.4, for whole numbers).
-use Rattle.std.specs.Prelude.{ℕ, Bool, ◌==◌, ◌≤◌, if◌then◌else◌, nat_le, Option, Some, None, Result, Ok, Err, ℤ, ◌+ℤ◌, ◌-ℤ◌, ◌*ℤ◌, unsigned_abs, int_div, int_rem}
+use Rattle.std.specs.Prelude.{ℕ, Bool, ◌≡◌, ◌==◌, ◌<◌, ◌≤◌, if◌then◌else◌, nat_le, Option, Some, None, Result, Ok, Err, ℤ, pos, ◌≤ℤ◌, ◌+ℤ◌, ◌-ℤ◌, ◌*ℤ◌, unsigned_abs, int_div, int_rem}
 use Rattle.std.specs.Ordering.{int_cmp}
 use Rattle.std.specs.declared.cmp.Ordering.{Ordering}
 use Rattle.whole_num.specs.declared.number.Num.{Num}
@@ -48,9 +48,19 @@ quotient a b =
 abbrev pub quotient_of : Num → Num → Result Num NumFault
 quotient_of = on_whole quotient
 
--- what is left of the dividend, with its sign
+-- what the division that truncates leaves of the dividend
+abbrev pub remainder : ℤ → ℤ → Result Num NumFault
+remainder a b = if is_zero b then Ok NaN else Ok (Whole (int_rem a b))
+
 abbrev pub remainder_of : Num → Num → Result Num NumFault
-remainder_of = on_whole (λ a b. if is_zero b then Ok NaN else Ok (Whole (int_rem a b)))
+remainder_of = on_whole remainder
+
+-- a remainder: with a multiple of the divisor it is the dividend, it is smaller than the divisor, and it has the dividend's sign
+pub record IsRemainder (a b r : ℤ) : Type 0 where
+  pub multiple : (q : ℤ) × (q *ℤ b +ℤ r ≡ a)
+  pub smaller : unsigned_abs r < unsigned_abs b
+  pub not_below : pos 0 ≤ℤ a → pos 0 ≤ℤ r
+  pub not_above : a ≤ℤ pos 0 → r ≤ℤ pos 0
 
 -- the order of whole numbers, and none with NaN
 abbrev pub order_of : Num → Num → Option Ordering

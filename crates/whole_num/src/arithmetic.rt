@@ -3,7 +3,7 @@
 ghost use Rattle.std.specs.Prelude.{◌≡◌, ◌≢◌, ℤ, ◌*ℤ◌, Ok, Err, IfOk};
 ghost use Rattle.whole_num.specs.declared.number.Num.TheVariants.{Whole};
 ghost use Rattle.whole_num.specs.declared.number.NumFault.TheVariants.{Fraction};
-ghost use Rattle.whole_num.specs.Number.{IsNumber, ranged, sum_of, difference_of, product_of, quotient_of, quotient, remainder_of, order_of};
+ghost use Rattle.whole_num.specs.Number.{IsNumber, ranged, sum_of, difference_of, product_of, quotient_of, quotient, remainder, remainder_of, IsRemainder, order_of};
 
 use crate::number::{GREATEST, Num, NumFault};
 use std::cmp::Ordering;
@@ -103,6 +103,13 @@ pub fn rem(a: Num, b: Num) -> Result<Num, NumFault>
         (Num::NaN, _) | (_, Num::NaN) => Ok(Num::NaN),
     }
 }
+
+/// A remainder is what a multiple of the divisor leaves of the dividend, smaller than the divisor and with the dividend's
+/// sign; and no other whole number is.
+pub fn remainder_is_exact()
+    ensures whole { (a b r : ℤ) → remainder a b ≡ Ok (Whole r) → IsRemainder a b r }
+    ensures only { (a b r s : ℤ) → IsRemainder a b r → IsRemainder a b s → r ≡ s }
+{}
 
 /// The order of two numbers, and None exactly where one is NaN.
 pub fn compare(a: Num, b: Num) -> Option<Ordering>

@@ -30,8 +30,10 @@ put_no_tree (Ok (x, w ∷ ws)) [] l n = absurd l
 put_no_tree (Ok (x, w ∷ ws)) (y ∷ rest) l n = tt
 
 -- where what goes on alike isn't read as a tree, nothing in the grammar goes on
-halts_where : (g : Limit) (d : ℕ) (v : Nonterminal) (read rest : List Word) (a : Answer v) → IsNoTree a → rest_of a ≡ rest → ((rest' : List Word) → Alike rest rest' → Reads g d v (production v) (read ++ rest') (put a rest')) → Halts g d v read rest
-halts_where g d v read [] a n is h = λ x i. no_tree x (put a []) (same (reads_all i) (subst (λ l. Reads g d v (production v) l (put a [])) (append-nil read) (h [] tt))) (put_no_tree a [] (subst (λ r. Alike r []) (sym is) tt) n)
+halts_where : (g : Limit) (d : ℕ) (v : Nonterminal) (read rest : List Word) (a : Answer v) → IsNoTree a → rest_of a ≡ rest
+    → ((rest' : List Word) → Alike rest rest' → Reads g d v (production v) (read ++ rest') (put a rest')) → Halts g d v read rest
+halts_where g d v read [] a n is h = λ x i. no_tree x (put a [])
+    (same (reads_all i) (subst (λ l. Reads g d v (production v) l (put a [])) (append-nil read) (h [] tt))) (put_no_tree a [] (subst (λ r. Alike r []) (sym is) tt) n)
 halts_where g d v read (w ∷ rest) a n is h = λ front.
     no_tree front.1 (put a (w ∷ front.0)) (same (reads_all (subst (λ l. IsTree g d v l front.1) (append_assoc read (w ∷ []) front.0) front.2)) (h (w ∷ front.0) refl))
     (put_no_tree a (w ∷ front.0) (subst (λ r. Alike r (w ∷ front.0)) (sym is) refl) n)
@@ -64,14 +66,19 @@ free_put : {X : Type 0} (a : Result (X × List Word) (Cause × List Word)) (rest
 free_put (Ok r) rest e = tt
 free_put (Err r) rest e = e
 
-why : (f : Limit) (d : ℕ) (v : Nonterminal) (read rest : List Word) (c : Cause) (a : Answer v) → cause_of a ≡ c → IsNoTree a → rest_of a ≡ rest → IsShape f c rest → FitsAll f d v (production v) read c rest → ((rest' : List Word) → Alike rest rest' → Reads f d v (production v) (read ++ rest') (put a rest')) → IsWhy f d v read c rest
-why f d v read rest cause.Syntax a e n is s A h = λ i. halts_less d i v read rest (halts_where every (deeper d i) v read rest a n is (λ rest' l. widen_reads every i (λ text p. refl) (free_put a rest' e) (h rest' l)))
+why : (f : Limit) (d : ℕ) (v : Nonterminal) (read rest : List Word) (c : Cause) (a : Answer v) → cause_of a ≡ c → IsNoTree a → rest_of a ≡ rest
+    → IsShape f c rest → FitsAll f d v (production v) read c rest
+    → ((rest' : List Word) → Alike rest rest' → Reads f d v (production v) (read ++ rest') (put a rest')) → IsWhy f d v read c rest
+why f d v read rest cause.Syntax a e n is s A h =
+    λ i. halts_less d i v read rest (halts_where every (deeper d i) v read rest a n is (λ rest' l. widen_reads every i (λ text p. refl) (free_put a rest' e) (h rest' l)))
 why f d v read (w ∷ rest) (cause.Literal m) a e n is s A h = (s.0, s.1, subst (λ n. IsFront every n v (read ++ w ∷ [])) (deeper_none d) (A every 0 (w ∷ []) any_number))
 why f d v read (w ∷ rest) cause.TooDeep a e n is s A h = (s, subst (λ n. IsFront f n v (read ++ w ∷ [])) (deeper_one d) (A f 1 (w ∷ []) one_deeper))
 why f d v read [] (cause.Literal m) a e n is s A h = absurd s
 why f d v read [] cause.TooDeep a e n is s A h = absurd s
 
-refused_where : (f : Limit) (d : ℕ) (v : Nonterminal) (ws read rest : List Word) (c : Cause) (a : Answer v) → ws ≡ read ++ rest → cause_of a ≡ c → IsNoTree a → rest_of a ≡ rest → IsShape f c rest → FitsAll f d v (production v) read c rest → ((rest' : List Word) → Alike rest rest' → Reads f d v (production v) (read ++ rest') (put a rest')) → Refused f d v ws c rest
+refused_where : (f : Limit) (d : ℕ) (v : Nonterminal) (ws read rest : List Word) (c : Cause) (a : Answer v) → ws ≡ read ++ rest → cause_of a ≡ c
+    → IsNoTree a → rest_of a ≡ rest → IsShape f c rest → FitsAll f d v (production v) read c rest
+    → ((rest' : List Word) → Alike rest rest' → Reads f d v (production v) (read ++ rest') (put a rest')) → Refused f d v ws c rest
 refused_where f d v ws read rest c a all e n is s A h = record {
   read = read;
   is = all;
@@ -82,7 +89,12 @@ refused_where f d v ws read rest c a all e n is s A h = record {
 
 -- a tree's words and one more
 read_whole : {f : Limit} {d : ℕ} {v : Nonterminal} {read rest : List Word} {x : Tree v} → IsTree f d v read x → FitsAll f d v (production v) read cause.Syntax rest
-read_whole {f = f} {d = d} {v = v} {read = read} {x = x} i g e next as_is = ([], x, subst (λ l. IsTree f (deeper d 0) v l x) (sym (append-nil (read ++ []))) (subst (λ l. IsTree f (deeper d 0) v l x) (sym (append-nil read)) (widen f 0 (λ text p. p) i)))
+read_whole {f = f} {d = d} {v = v} {read = read} {x = x} i g e next as_is = (
+  [],
+  x,
+  subst (λ l. IsTree f (deeper d 0) v l x) (sym (append-nil (read ++ [])))
+      (subst (λ l. IsTree f (deeper d 0) v l x) (sym (append-nil read)) (widen f 0 (λ text p. p) i)),
+)
 
 outcome : (f : Limit) (d : ℕ) (v : Nonterminal) (ws : List Word) (a : Answer v) → Goes f d v (production v) ws a → Outcome f d v ws (whole a)
 outcome f d v ws (Err (c, rest)) G = refused_where f d v ws G.read rest c (Err (c, rest)) G.is refl tt refl G.fits.0 G.fits.1 G.again

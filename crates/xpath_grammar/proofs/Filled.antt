@@ -9,7 +9,9 @@ use Rattle.xpath_grammar.specs.declared.sign.Sign.TheVariants as sign
 use Rattle.xpath_grammar.specs.declared.sign.Precedence.{Precedence}
 use Rattle.xpath_grammar.specs.declared.sign.Precedence.TheVariants as precedence
 use Rattle.xpath_grammar.specs.Words.{Word}
-use Rattle.xpath_grammar.specs.Productions.{Nonterminal, level, more, primary, predicates, relative_tail, call, arguments, more_arguments, location, steps, more_steps, step, tested, node_test, pattern, more_patterns, pattern_path, pattern_steps, more_pattern_steps, pattern_step}
+use Rattle.xpath_grammar.specs.Productions.{Nonterminal, level, more, primary, predicates, relative_tail, call, arguments, more_arguments, location}
+use Rattle.xpath_grammar.specs.Productions.{steps, more_steps, step, tested, node_test, pattern, more_patterns, pattern_path, pattern_steps}
+use Rattle.xpath_grammar.specs.Productions.{more_pattern_steps, pattern_step}
 use Rattle.xpath_grammar.specs.Grammar.{production}
 use Rattle.xpath_grammar.proofs.AllSigns.{by_all}
 use Rattle.xpath_grammar.proofs.Fill.{HasTree, Full, fill}
@@ -142,7 +144,11 @@ full (level precedence.Equality) = (λ x. (λ x. tt))
 full (level precedence.And) = (λ x. (λ x. tt))
 full (level precedence.Or) = (λ x. (λ x. tt))
 full (more p left) = ((λ w h. ((w, h), λ u. (λ x. (λ x. tt)))), tt)
-full primary = ((λ u x. ((word_of sign.Close, refl), λ u. tt)), ((λ u x. tt), ((λ w h. ((word_of sign.Literal, refl), λ u. tt)), ((λ u. tt), ((word_of sign.Variable, refl), λ u. tt))), by_all _ refl), by_all _ refl)
+full primary = (
+  (λ u x. ((word_of sign.Close, refl), λ u. tt)),
+  ((λ u x. tt), ((λ w h. ((word_of sign.Literal, refl), λ u. tt)), ((λ u. tt), ((word_of sign.Variable, refl), λ u. tt))), by_all _ refl),
+  by_all _ refl,
+)
 full predicates = ((λ u x. ((word_of sign.CloseSquare, refl), λ u. (λ x. tt))), tt, by_all _ refl)
 full relative_tail = ((λ w h. ((word_of sign.Slash, refl), λ u. (λ x. tt))), ((λ w h. ((word_of sign.Slashes, refl), λ u. (λ x. tt))), tt))
 full call = ((word_of sign.Open, refl), λ u. (λ x. ((word_of sign.Close, refl), λ u. tt)))
@@ -151,12 +157,74 @@ full more_arguments = ((λ w h. ((word_of sign.Comma, refl), λ u. (λ x. (λ x.
 full location = ((λ w h. ((word_of sign.Slash, refl), λ u. ((λ w h. (λ x. tt)), tt))), ((λ w h. ((word_of sign.Slashes, refl), λ u. (λ x. tt))), (λ x. tt)))
 full steps = (λ x. (λ x. tt))
 full more_steps = ((λ w h. ((word_of sign.Slash, refl), λ u. (λ x. tt))), ((λ w h. ((word_of sign.Slashes, refl), λ u. (λ x. tt))), tt))
-full step = ((λ w h. ((word_of sign.Point, refl), λ u. tt)), ((λ w h. ((word_of sign.Points, refl), λ u. tt)), ((λ w h. ((word_of sign.At, refl), λ u. (λ x. tt))), ((λ w h. ((word_of (sign.Axis axis.Child), refl), λ u. ((word_of sign.Colons, refl), λ u. (λ x. tt)))), (λ x. tt)))))
+full step = (
+  (λ w h. ((word_of sign.Point, refl), λ u. tt)),
+  (
+    (λ w h. ((word_of sign.Points, refl), λ u. tt)),
+    (
+      (λ w h. ((word_of sign.At, refl), λ u. (λ x. tt))),
+      ((λ w h. ((word_of (sign.Axis axis.Child), refl), λ u. ((word_of sign.Colons, refl), λ u. (λ x. tt)))), (λ x. tt)),
+    ),
+  ),
+)
 full (tested a) = (λ x. (λ x. tt))
-full node_test = ((λ w h. ((word_of sign.Star, refl), λ u. tt)), ((λ w h. ((word_of sign.InPrefix, refl), λ u. tt)), ((λ w h. ((word_of sign.Node, refl), λ u. ((word_of sign.Open, refl), λ u. ((word_of sign.Close, refl), λ u. tt)))), ((λ w h. ((word_of sign.Instruction, refl), λ u. ((word_of sign.Open, refl), λ u. ((λ w h. ((word_of sign.Literal, refl), λ u. ((word_of sign.Close, refl), λ u. tt))), ((word_of sign.Close, refl), λ u. tt))))), ((word_of sign.Name, refl), λ u. tt)))))
+full node_test = (
+  (λ w h. ((word_of sign.Star, refl), λ u. tt)),
+  (
+    (λ w h. ((word_of sign.InPrefix, refl), λ u. tt)),
+    (
+      (λ w h. ((word_of sign.Node, refl), λ u. ((word_of sign.Open, refl), λ u. ((word_of sign.Close, refl), λ u. tt)))),
+      (
+        (λ w h. (
+          (word_of sign.Instruction, refl),
+          λ u. (
+            (word_of sign.Open, refl),
+            λ u. (
+              (λ w h. ((word_of sign.Literal, refl), λ u. ((word_of sign.Close, refl), λ u. tt))),
+              ((word_of sign.Close, refl), λ u. tt),
+            ),
+          ),
+        )),
+        ((word_of sign.Name, refl), λ u. tt),
+      ),
+    ),
+  ),
+)
 full pattern = (λ x. (λ x. tt))
 full more_patterns = ((λ w h. ((word_of (sign.Operator op.Union), refl), λ u. (λ x. (λ x. tt)))), tt)
-full pattern_path = ((λ w h. ((word_of sign.Slash, refl), λ u. ((λ w h. (λ x. tt)), tt))), ((λ w h. ((word_of sign.Slashes, refl), λ u. (λ x. tt))), ((λ w h. ((word_of sign.Id, refl), λ u. ((word_of sign.Open, refl), λ u. ((word_of sign.Literal, refl), λ u. ((word_of sign.Close, refl), λ u. (λ x. tt)))))), ((λ w h. ((word_of sign.Key, refl), λ u. ((word_of sign.Open, refl), λ u. ((word_of sign.NameLiteral, refl), λ u. ((word_of sign.Comma, refl), λ u. ((word_of sign.Literal, refl), λ u. ((word_of sign.Close, refl), λ u. (λ x. tt)))))))), (λ x. tt)))))
+full pattern_path = (
+  (λ w h. ((word_of sign.Slash, refl), λ u. ((λ w h. (λ x. tt)), tt))),
+  (
+    (λ w h. ((word_of sign.Slashes, refl), λ u. (λ x. tt))),
+    (
+      (λ w h. (
+        (word_of sign.Id, refl),
+        λ u. (
+          (word_of sign.Open, refl),
+          λ u.
+              ((word_of sign.Literal, refl), λ u. ((word_of sign.Close, refl), λ u. (λ x. tt))),
+        ),
+      )),
+      (
+        (λ w h. (
+          (word_of sign.Key, refl),
+          λ u. (
+            (word_of sign.Open, refl),
+            λ u. (
+              (word_of sign.NameLiteral, refl),
+              λ u. (
+                (word_of sign.Comma, refl),
+                λ u.
+                    ((word_of sign.Literal, refl), λ u. ((word_of sign.Close, refl), λ u. (λ x. tt))),
+              ),
+            ),
+          ),
+        )),
+        (λ x. tt),
+      ),
+    ),
+  ),
+)
 full pattern_steps = (λ x. (λ x. tt))
 full more_pattern_steps = ((λ w h. ((word_of sign.Slash, refl), λ u. (λ x. (λ x. tt)))), ((λ w h. ((word_of sign.Slashes, refl), λ u. (λ x. (λ x. tt)))), tt))
 full pattern_step = ((λ w h. ((word_of sign.At, refl), λ u. (λ x. tt))), ((λ w h. ((word_of (sign.Axis axis.Child), refl), λ u. ((word_of sign.Colons, refl), λ u. (λ x. tt)))), (λ x. tt)))

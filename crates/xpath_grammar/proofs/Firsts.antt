@@ -9,8 +9,11 @@ use Rattle.xpath_grammar.specs.declared.sign.Sign.TheVariants as sign
 use Rattle.xpath_grammar.specs.declared.sign.Precedence.{Precedence}
 use Rattle.xpath_grammar.specs.declared.sign.Precedence.TheVariants as precedence
 use Rattle.xpath_grammar.specs.Words.{Word}
-use Rattle.xpath_grammar.specs.Signs.{place, precedence_of, is_operator, is_slash, is_slashes, is_open, is_open_square, is_number, is_comma, is_id, is_key, begins_test, begins_step, begins_pattern_step, begins_primary, begins_expression}
-use Rattle.xpath_grammar.specs.Productions.{Nonterminal, level, more, primary, predicates, relative_tail, call, arguments, more_arguments, location, steps, more_steps, step, tested, node_test, pattern, more_patterns, pattern_path, pattern_steps, more_pattern_steps, pattern_step, Tree, Production, gives, word, part, either, number, nested}
+use Rattle.xpath_grammar.specs.Signs.{place, precedence_of, is_operator, is_slash, is_slashes, is_open, is_open_square, is_number, is_comma, is_id}
+use Rattle.xpath_grammar.specs.Signs.{is_key, begins_test, begins_step, begins_pattern_step, begins_primary, begins_expression}
+use Rattle.xpath_grammar.specs.Productions.{Nonterminal, level, more, primary, predicates, relative_tail, call, arguments, more_arguments, location}
+use Rattle.xpath_grammar.specs.Productions.{steps, more_steps, step, tested, node_test, pattern, more_patterns, pattern_path, pattern_steps}
+use Rattle.xpath_grammar.specs.Productions.{more_pattern_steps, pattern_step, Tree, Production, gives, word, part, either, number, nested}
 use Rattle.xpath_grammar.specs.Grammar.{itself, path_of, pattern_of, pattern_path_of}
 use Rattle.xpath_grammar.proofs.Fill.{implies}
 

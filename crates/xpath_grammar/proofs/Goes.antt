@@ -10,7 +10,9 @@ use Rattle.xpath_grammar.specs.Productions.{Nonterminal, Tree, Production, word,
 use Rattle.xpath_grammar.specs.Grammar.{production}
 use Rattle.xpath_grammar.specs.Trees.{Limit, Derives, nothing, one_word, two_parts, first, second, one_number, no_number, in_level, no_level}
 use Rattle.xpath_grammar.specs.Refusal.{every}
-use Rattle.xpath_grammar.specs.Reading.{Answer, Starts, Skips, Reads, read_nothing, read_word, read_wrong, read_parts, read_part_fails, read_first, read_second, read_number, read_refused, read_no_number, read_level, read_level_fails, read_too_deep, read_no_level}
+use Rattle.xpath_grammar.specs.Reading.{Answer, Starts, Skips, Reads, read_nothing, read_word, read_wrong, read_parts, read_part_fails, read_first}
+use Rattle.xpath_grammar.specs.Reading.{read_second, read_number, read_refused, read_no_number, read_level, read_level_fails, read_too_deep}
+use Rattle.xpath_grammar.specs.Reading.{read_no_level}
 use Rattle.xpath_grammar.proofs.Wider.{deeper, Lets, widen, Alike, alike_more, same_head, starts_alike, skips_alike, rest_of, put}
 use Rattle.xpath_grammar.proofs.Fill.{Full, fill, quick, implied}
 use Rattle.xpath_grammar.proofs.Filled.{has, full}
@@ -56,16 +58,24 @@ pub record Goes (f : Limit) (d : ℕ) (v : Nonterminal) (p : Production v) (ws :
 abbrev Behind : Limit → ℕ → (v : Nonterminal) → Production v → Production v → List Word → Type 0
 Behind f d v p q before = (ws : List Word) (x : Tree v) → Derives f d v q ws x → Derives f d v p (before ++ ws) x
 
-fits_behind : (f : Limit) (d : ℕ) (v : Nonterminal) (p q : Production v) (before read : List Word) (a : Answer v) → FitsOf f d v q read a → Behind f d v p q before → ((g : Limit) (e : ℕ) → Lets f g → Behind g (deeper d e) v p q before) → FitsOf f d v p (before ++ read) a
+fits_behind : (f : Limit) (d : ℕ) (v : Nonterminal) (p q : Production v) (before read : List Word) (a : Answer v) → FitsOf f d v q read a
+    → Behind f d v p q before → ((g : Limit) (e : ℕ) → Lets f g → Behind g (deeper d e) v p q before) → FitsOf f d v p (before ++ read) a
 fits_behind f d v p q before read (Ok r) h b w = b read r.0 h
 fits_behind f d v p q before read (Err r) h b w = (
   h.0,
-  λ g e next a. let c = h.1 g e next a in
-      (c.0, c.1, subst (λ ws. Derives g (deeper d e) v p ws c.1) (sym (append_assoc before (read ++ next) c.0) ∙ ap (λ l. l ++ c.0) (sym (append_assoc before read next))) (w g e (allowed_lets a) ((read ++ next) ++ c.0) c.1 c.2)),
+  λ g e next a. let c = h.1 g e next a in (
+    c.0,
+    c.1,
+    subst (λ ws. Derives g (deeper d e) v p ws c.1) (sym (append_assoc before (read ++ next) c.0)
+        ∙ ap (λ l. l ++ c.0) (sym (append_assoc before read next))) (w g e (allowed_lets a) ((read ++ next) ++ c.0) c.1 c.2),
+  ),
 )
 
 -- what goes by q goes by p behind some words
-goes_behind : (f : Limit) (d : ℕ) (v : Nonterminal) (p q : Production v) (before ws all : List Word) (a : Answer v) → (G : Goes f d v q ws a) → all ≡ before ++ ws → Behind f d v p q before → ((g : Limit) (e : ℕ) → Lets f g → Behind g (deeper d e) v p q before) → ((rest : List Word) → Alike (rest_of a) rest → Reads f d v q (G.read ++ rest) (put a rest) → Reads f d v p (before ++ (G.read ++ rest)) (put a rest)) → Goes f d v p all a
+goes_behind : (f : Limit) (d : ℕ) (v : Nonterminal) (p q : Production v) (before ws all : List Word) (a : Answer v) → (G : Goes f d v q ws a)
+    → all ≡ before ++ ws → Behind f d v p q before → ((g : Limit) (e : ℕ) → Lets f g → Behind g (deeper d e) v p q before)
+    → ((rest : List Word) → Alike (rest_of a) rest → Reads f d v q (G.read ++ rest) (put a rest)
+    → Reads f d v p (before ++ (G.read ++ rest)) (put a rest)) → Goes f d v p all a
 goes_behind f d v p q before ws all a G is b w r = record {
   read = before ++ G.read;
   is = is ∙ (ap (λ l. before ++ l) G.is ∙ sym (append_assoc before G.read (rest_of a)));
@@ -92,11 +102,14 @@ word_wrong f d v t k ws F s = record {
   again = λ rest l. read_wrong (skips_alike t ws rest l s);
 }
 
-refused_allowed : {f : Limit} {n : NumFault} {w : Word} {rest : List Word} {g : Limit} {e : ℕ} {next : List Word} (d : ℕ) (v : Nonterminal) (k : Word → Production v) (q : Production v) → Full v (number k q) → is_number w.sign ≡ true → Allowed f (cause.Literal n) (w ∷ rest) g e next → Completes g d v (number k q) next
+refused_allowed : {f : Limit} {n : NumFault} {w : Word} {rest : List Word} {g : Limit} {e : ℕ} {next : List Word} (d : ℕ) (v : Nonterminal) (k : Word
+    → Production v) (q : Production v) → Full v (number k q) → is_number w.sign ≡ true → Allowed f (cause.Literal n) (w ∷ rest) g e next
+    → Completes g d v (number k q) next
 refused_allowed {f = f} d v k q F h as_is = let c = filled v (number k q) F f d in (c.0, c.1, c.2)
 refused_allowed {w = w} d v k q F h any_number = let c = filled v (k w) (F.0 w) every d in (c.0, c.1, one_number w h refl c.2)
 
-number_refused : (f : Limit) (d : ℕ) (v : Nonterminal) (k : Word → Production v) (q : Production v) (w : Word) (ws : List Word) (n : NumFault) → Full v (number k q) → is_number w.sign ≡ true → f w.text ≡ Some n → Goes f d v (number k q) (w ∷ ws) (Err (cause.Literal n, w ∷ ws))
+number_refused : (f : Limit) (d : ℕ) (v : Nonterminal) (k : Word → Production v) (q : Production v) (w : Word) (ws : List Word) (n : NumFault)
+    → Full v (number k q) → is_number w.sign ≡ true → f w.text ≡ Some n → Goes f d v (number k q) (w ∷ ws) (Err (cause.Literal n, w ∷ ws))
 number_refused f d v k q w ws n F h s = record {
   read = [];
   is = refl;
@@ -104,12 +117,14 @@ number_refused f d v k q w ws n F h s = record {
   again = λ rest l. same_head w ws rest l (λ rest. Reads f d v (number k q) rest (Err (cause.Literal n, rest))) (λ ys. read_refused h s);
 }
 
-deep_allowed : {f : Limit} {w : Word} {rest : List Word} {g : Limit} {e : ℕ} {next : List Word} (v m : Nonterminal) (t : Sign → Bool) (k : Word → Tree m → Production v) (q : Production v) → Full v (nested t m k q) → t w.sign ≡ true → Allowed f cause.TooDeep (w ∷ rest) g e next → Completes g e v (nested t m k q) next
+deep_allowed : {f : Limit} {w : Word} {rest : List Word} {g : Limit} {e : ℕ} {next : List Word} (v m : Nonterminal) (t : Sign → Bool) (k : Word → Tree m
+    → Production v) (q : Production v) → Full v (nested t m k q) → t w.sign ≡ true → Allowed f cause.TooDeep (w ∷ rest) g e next → Completes g e v (nested t m k q) next
 deep_allowed {f = f} v m t k q F h as_is = let c = filled v (nested t m k q) F f zero in (c.0, c.1, c.2)
 deep_allowed {f = f} {w = w} v m t k q F h one_deeper =
     let a = has m f zero in let c = filled v (k w a.1) (F.0 w a.1) f (suc zero) in (a.0 ++ c.0, c.1, in_level w h a.2 c.2)
 
-too_deep : (f : Limit) (v m : Nonterminal) (t : Sign → Bool) (k : Word → Tree m → Production v) (q : Production v) (w : Word) (ws : List Word) → Full v (nested t m k q) → t w.sign ≡ true → Goes f zero v (nested t m k q) (w ∷ ws) (Err (cause.TooDeep, w ∷ ws))
+too_deep : (f : Limit) (v m : Nonterminal) (t : Sign → Bool) (k : Word → Tree m → Production v) (q : Production v) (w : Word) (ws : List Word)
+    → Full v (nested t m k q) → t w.sign ≡ true → Goes f zero v (nested t m k q) (w ∷ ws) (Err (cause.TooDeep, w ∷ ws))
 too_deep f v m t k q w ws F h = record {
   read = [];
   is = refl;
@@ -117,7 +132,8 @@ too_deep f v m t k q w ws F h = record {
   again = λ rest l. same_head w ws rest l (λ rest. Reads f zero v (nested t m k q) rest (Err (cause.TooDeep, rest))) (λ ys. read_too_deep h);
 }
 
-part_fails : (f : Limit) (d : ℕ) (v m : Nonterminal) (k : Tree m → Production v) (ws : List Word) (e : Cause × List Word) → Full v (part m k) → Goes f d m (production m) ws (Err e) → Goes f d v (part m k) ws (Err e)
+part_fails : (f : Limit) (d : ℕ) (v m : Nonterminal) (k : Tree m → Production v) (ws : List Word) (e : Cause × List Word) → Full v (part m k)
+    → Goes f d m (production m) ws (Err e) → Goes f d v (part m k) ws (Err e)
 part_fails f d v m k ws e F G = record {
   read = G.read;
   is = G.is;
@@ -129,7 +145,9 @@ part_fails f d v m k ws e F G = record {
   again = λ rest l. read_part_fails (G.again rest l);
 }
 
-level_fails : (f : Limit) (d : ℕ) (v m : Nonterminal) (t : Sign → Bool) (k : Word → Tree m → Production v) (q : Production v) (w : Word) (ws : List Word) (e : Cause × List Word) → Full v (nested t m k q) → t w.sign ≡ true → Goes f d m (production m) ws (Err e) → Goes f (suc d) v (nested t m k q) (w ∷ ws) (Err e)
+level_fails : (f : Limit) (d : ℕ) (v m : Nonterminal) (t : Sign → Bool) (k : Word → Tree m
+    → Production v) (q : Production v) (w : Word) (ws : List Word) (e : Cause × List Word) → Full v (nested t m k q) → t w.sign ≡ true
+    → Goes f d m (production m) ws (Err e) → Goes f (suc d) v (nested t m k q) (w ∷ ws) (Err e)
 level_fails f d v m t k q w ws e F h G = record {
   read = w ∷ G.read;
   is = ap (λ l. w ∷ l) G.is;
@@ -141,12 +159,15 @@ level_fails f d v m t k q w ws e F h G = record {
   again = λ rest l. read_level_fails h (G.again rest l);
 }
 
-both_go : (f : Limit) (d : ℕ) (v m : Nonterminal) (k : Tree m → Production v) (ws : List Word) (y : Tree m) (after : List Word) (a : Answer v) → Goes f d m (production m) ws (Ok (y, after)) → Goes f d v (k y) after a → Goes f d v (part m k) ws a
+both_go : (f : Limit) (d : ℕ) (v m : Nonterminal) (k : Tree m → Production v) (ws : List Word) (y : Tree m) (after : List Word) (a : Answer v)
+    → Goes f d m (production m) ws (Ok (y, after)) → Goes f d v (k y) after a → Goes f d v (part m k) ws a
 both_go f d v m k ws y after a G H = goes_behind f d v (part m k) (k y) G.read after ws a H G.is
     (λ us x i. two_parts G.fits i) (λ g e l us x i. two_parts (widen g e l G.fits) i)
     (λ rest l r. read_parts (G.again (H.read ++ rest) (goes_alike after H.read (rest_of a) rest H.is l)) r)
 
-level_goes : (f : Limit) (d : ℕ) (v m : Nonterminal) (t : Sign → Bool) (k : Word → Tree m → Production v) (q : Production v) (w : Word) (ws : List Word) (y : Tree m) (after : List Word) (a : Answer v) → t w.sign ≡ true → Goes f d m (production m) ws (Ok (y, after)) → Goes f (suc d) v (k w y) after a → Goes f (suc d) v (nested t m k q) (w ∷ ws) a
+level_goes : (f : Limit) (d : ℕ) (v m : Nonterminal) (t : Sign → Bool) (k : Word → Tree m
+    → Production v) (q : Production v) (w : Word) (ws : List Word) (y : Tree m) (after : List Word) (a : Answer v) → t w.sign ≡ true
+    → Goes f d m (production m) ws (Ok (y, after)) → Goes f (suc d) v (k w y) after a → Goes f (suc d) v (nested t m k q) (w ∷ ws) a
 level_goes f d v m t k q w ws y after a h G H = goes_behind f (suc d) v (nested t m k q) (k w y) (w ∷ G.read) after (w ∷ ws) a H (ap (λ l. w ∷ l) G.is)
     (λ us x i. in_level w h G.fits i) (λ g e l us x i. in_level w h (widen g e l G.fits) i)
     (λ rest l r. read_level h (G.again (H.read ++ rest) (goes_alike after H.read (rest_of a) rest H.is l)) r)

@@ -2,14 +2,25 @@
 use Rattle.std.proofs.Common.{◌≡◌, refl, true}
 use Rattle.xpath_grammar.specs.declared.sign.Sign.{Sign}
 use Rattle.xpath_grammar.specs.declared.sign.Precedence.TheVariants as precedence
-use Rattle.xpath_grammar.specs.Productions.{Nonterminal, level, more, primary, predicates, relative_tail, call, arguments, more_arguments, location, steps, more_steps, step, tested, node_test, pattern, more_patterns, pattern_path, pattern_steps, more_pattern_steps, pattern_step}
+use Rattle.xpath_grammar.specs.Productions.{Nonterminal, level, more, primary, predicates, relative_tail, call, arguments, more_arguments, location}
+use Rattle.xpath_grammar.specs.Productions.{steps, more_steps, step, tested, node_test, pattern, more_patterns, pattern_path, pattern_steps}
+use Rattle.xpath_grammar.specs.Productions.{more_pattern_steps, pattern_step}
 use Rattle.xpath_grammar.specs.Grammar.{production}
 use Rattle.xpath_grammar.proofs.AllSigns.{by_all}
 use Rattle.xpath_grammar.proofs.Fill.{implies}
 use Rattle.xpath_grammar.proofs.Firsts.{starts, is_empty, eats, begins, fades, Fits}
 
 pub fitting : (v : Nonterminal) → Fits v (production v) (eats v)
-fitting (level precedence.Path) = ((λ x. ((λ x. ((λ x. (tt, by_all _ refl, (by_all _ refl, refl))), by_all _ refl, (by_all _ refl, refl))), by_all _ refl, (by_all _ refl, refl))), (λ x. (tt, by_all _ refl, (by_all _ refl, refl))), refl, by_all _ refl)
+fitting (level precedence.Path) = (
+  (λ x. (
+    (λ x. ((λ x. (tt, by_all _ refl, (by_all _ refl, refl))), by_all _ refl, (by_all _ refl, refl))),
+    by_all _ refl,
+    (by_all _ refl, refl),
+  )),
+  (λ x. (tt, by_all _ refl, (by_all _ refl, refl))),
+  refl,
+  by_all _ refl,
+)
 fitting (level precedence.Union) = (λ x. ((λ x. (tt, by_all _ refl, (by_all _ refl, refl))), by_all _ refl, (by_all _ refl, refl)))
 fitting (level precedence.Unary) = ((λ w x. (tt, by_all _ refl)), (λ x. (tt, by_all _ refl, (by_all _ refl, refl))), by_all _ refl)
 fitting (level precedence.Multiplicative) = (λ x. ((λ x. (tt, by_all _ refl, (by_all _ refl, refl))), by_all _ refl, (by_all _ refl, refl)))
@@ -33,18 +44,83 @@ fitting relative_tail = ((λ w. (λ x. (tt, by_all _ refl, (by_all _ refl, refl)
 fitting call = (λ w. (λ x. ((λ w. tt), by_all _ refl, (by_all _ refl, refl))))
 fitting arguments = ((λ x. ((λ x. (tt, by_all _ refl, (by_all _ refl, refl))), by_all _ refl, (by_all _ refl, refl))), tt, refl, by_all _ refl)
 fitting more_arguments = ((λ w. (λ x. ((λ x. (tt, by_all _ refl, (by_all _ refl, refl))), by_all _ refl, (by_all _ refl, refl)))), tt, refl, by_all _ refl)
-fitting location = ((λ w. ((λ x. (tt, by_all _ refl, (by_all _ refl, refl))), tt, refl, by_all _ refl)), ((λ w. (λ x. (tt, by_all _ refl, (by_all _ refl, refl)))), (λ x. (tt, by_all _ refl, (by_all _ refl, refl))), refl, by_all _ refl), refl, by_all _ refl)
+fitting location = (
+  (λ w. ((λ x. (tt, by_all _ refl, (by_all _ refl, refl))), tt, refl, by_all _ refl)),
+  ((λ w. (λ x. (tt, by_all _ refl, (by_all _ refl, refl)))), (λ x. (tt, by_all _ refl, (by_all _ refl, refl))), refl, by_all _ refl),
+  refl,
+  by_all _ refl,
+)
 fitting steps = (λ x. ((λ x. (tt, by_all _ refl, (by_all _ refl, refl))), by_all _ refl, (by_all _ refl, refl)))
 fitting more_steps = ((λ w. (λ x. (tt, by_all _ refl, (by_all _ refl, refl)))), ((λ w. (λ x. (tt, by_all _ refl, (by_all _ refl, refl)))), tt, refl, by_all _ refl), refl, by_all _ refl)
-fitting step = ((λ w. tt), ((λ w. tt), ((λ w. (λ x. (tt, by_all _ refl, (by_all _ refl, refl)))), ((λ w. (λ w. (λ x. (tt, by_all _ refl, (by_all _ refl, refl))))), (λ x. (tt, by_all _ refl, (by_all _ refl, refl))), refl, by_all _ refl), refl, by_all _ refl), refl, by_all _ refl), refl, by_all _ refl)
+fitting step = (
+  (λ w. tt),
+  (
+    (λ w. tt),
+    (
+      (λ w. (λ x. (tt, by_all _ refl, (by_all _ refl, refl)))),
+      ((λ w. (λ w. (λ x. (tt, by_all _ refl, (by_all _ refl, refl))))), (λ x. (tt, by_all _ refl, (by_all _ refl, refl))), refl, by_all _ refl),
+      refl,
+      by_all _ refl,
+    ),
+    refl,
+    by_all _ refl,
+  ),
+  refl,
+  by_all _ refl,
+)
 fitting (tested a) = (λ x. ((λ x. (tt, by_all _ refl, (by_all _ refl, refl))), by_all _ refl, (by_all _ refl, refl)))
-fitting node_test = ((λ w. tt), ((λ w. tt), ((λ w. (λ w. (λ w. tt))), ((λ w. (λ w. ((λ w. (λ w. tt)), (λ w. tt), refl, by_all _ refl))), (λ w. tt), refl, by_all _ refl), refl, by_all _ refl), refl, by_all _ refl), refl, by_all _ refl)
+fitting node_test = (
+  (λ w. tt),
+  (
+    (λ w. tt),
+    (
+      (λ w. (λ w. (λ w. tt))),
+      ((λ w. (λ w. ((λ w. (λ w. tt)), (λ w. tt), refl, by_all _ refl))), (λ w. tt), refl, by_all _ refl),
+      refl,
+      by_all _ refl,
+    ),
+    refl,
+    by_all _ refl,
+  ),
+  refl,
+  by_all _ refl,
+)
 fitting pattern = (λ x. ((λ x. (tt, by_all _ refl, (by_all _ refl, refl))), by_all _ refl, (by_all _ refl, refl)))
 fitting more_patterns = ((λ w. (λ x. ((λ x. (tt, by_all _ refl, (by_all _ refl, refl))), by_all _ refl, (by_all _ refl, refl)))), tt, refl, by_all _ refl)
-fitting pattern_path = ((λ w. ((λ x. (tt, by_all _ refl, (by_all _ refl, refl))), tt, refl, by_all _ refl)), ((λ w. (λ x. (tt, by_all _ refl, (by_all _ refl, refl)))), ((λ w. (λ w. (λ w. (λ w. (λ x. (tt, by_all _ refl, (by_all _ refl, refl))))))), ((λ w. (λ w. (λ w. (λ w. (λ w. (λ w. (λ x. (tt, by_all _ refl, (by_all _ refl, refl))))))))), (λ x. (tt, by_all _ refl, (by_all _ refl, refl))), refl, by_all _ refl), refl, by_all _ refl), refl, by_all _ refl), refl, by_all _ refl)
+fitting pattern_path = (
+  (λ w. ((λ x. (tt, by_all _ refl, (by_all _ refl, refl))), tt, refl, by_all _ refl)),
+  (
+    (λ w. (λ x. (tt, by_all _ refl, (by_all _ refl, refl)))),
+    (
+      (λ w. (λ w. (λ w. (λ w. (λ x. (tt, by_all _ refl, (by_all _ refl, refl))))))),
+      (
+        (λ w. (λ w. (λ w. (λ w. (λ w. (λ w. (λ x. (tt, by_all _ refl, (by_all _ refl, refl))))))))),
+        (λ x. (tt, by_all _ refl, (by_all _ refl, refl))),
+        refl,
+        by_all _ refl,
+      ),
+      refl,
+      by_all _ refl,
+    ),
+    refl,
+    by_all _ refl,
+  ),
+  refl,
+  by_all _ refl,
+)
 fitting pattern_steps = (λ x. ((λ x. (tt, by_all _ refl, (by_all _ refl, refl))), by_all _ refl, (by_all _ refl, refl)))
-fitting more_pattern_steps = ((λ w. (λ x. ((λ x. (tt, by_all _ refl, (by_all _ refl, refl))), by_all _ refl, (by_all _ refl, refl)))), ((λ w. (λ x. ((λ x. (tt, by_all _ refl, (by_all _ refl, refl))), by_all _ refl, (by_all _ refl, refl)))), tt, refl, by_all _ refl), refl, by_all _ refl)
-fitting pattern_step = ((λ w. (λ x. (tt, by_all _ refl, (by_all _ refl, refl)))), ((λ w. (λ w. (λ x. (tt, by_all _ refl, (by_all _ refl, refl))))), (λ x. (tt, by_all _ refl, (by_all _ refl, refl))), refl, by_all _ refl), refl, by_all _ refl)
+fitting more_pattern_steps = (
+  (λ w. (λ x. ((λ x. (tt, by_all _ refl, (by_all _ refl, refl))), by_all _ refl, (by_all _ refl, refl)))),
+  ((λ w. (λ x. ((λ x. (tt, by_all _ refl, (by_all _ refl, refl))), by_all _ refl, (by_all _ refl, refl)))), tt, refl, by_all _ refl),
+  refl,
+  by_all _ refl,
+)
+fitting pattern_step = (
+  (λ w. (λ x. (tt, by_all _ refl, (by_all _ refl, refl)))),
+  ((λ w. (λ w. (λ x. (tt, by_all _ refl, (by_all _ refl, refl))))), (λ x. (tt, by_all _ refl, (by_all _ refl, refl))), refl, by_all _ refl),
+  refl,
+  by_all _ refl,
+)
 
 pub begin_there : (v : Nonterminal) (s : Sign) → implies (begins v (production v) s) (starts v s) ≡ true
 begin_there (level precedence.Path) = by_all _ refl

@@ -92,7 +92,8 @@ and_second : (a b : Bool) → (a && b) ≡ true → b ≡ true
 and_second true b h = h
 and_second false b h = cc
 
-pub reads : {f : Limit} {d : ℕ} {v : Nonterminal} {p : Production v} {ws : List Word} {x : Tree v} (e : Sign → Bool) → Fits v p e → Derives f d v p ws x → (more : List Word) → Skips e more → Reads f d v p (ws ++ more) (Ok (x, more))
+pub reads : {f : Limit} {d : ℕ} {v : Nonterminal} {p : Production v} {ws : List Word} {x : Tree v} (e : Sign → Bool) → Fits v p e → Derives f d v p ws x
+    → (more : List Word) → Skips e more → Reads f d v p (ws ++ more) (Ok (x, more))
 reads e F nothing = λ more s. read_nothing
 reads e F (one_word w h i) = λ more s. read_word h (reads e (F w) i more s)
 reads {f = f} {d = d} {v = v} {x = x} e F (two_parts {m = m} {k = k} {us = us} {ws = ws} {y = y} i j) = λ more s.
@@ -100,9 +101,12 @@ reads {f = f} {d = d} {v = v} {x = x} e F (two_parts {m = m} {k = k} {us = us} {
     subst (λ l. Reads f d v (part m k) l (Ok (x, more))) (sym (append_assoc us ws more))
     (read_parts (reads (eats m) (fitting m) i (ws ++ more) (skips_behind (eats m) (begins v (k y)) e (fades v (k y)) S.1 ws more (firsts e S.0 j) s)) (reads e S.0 j more s))
 reads {v = v} e F (first {t = t} {p = p} {q = q} {ws = ws} i) = λ more s.
-    read_first (starts_with (fades v p) (begins v p) t F.2 (λ s h. implied (begins v p s) (t s) (and_first (implies (begins v p s) (t s)) (apart (t s) (begins v q s) (fades v q) (e s)) (F.3 s)) h) ws more (firsts e F.0 i)) (reads e F.0 i more s)
+    read_first (starts_with (fades v p) (begins v p) t F.2 (λ s h.
+    implied (begins v p s) (t s) (and_first (implies (begins v p s) (t s)) (apart (t s) (begins v q s) (fades v q) (e s)) (F.3 s)) h) ws more
+    (firsts e F.0 i)) (reads e F.0 i more s)
 reads {v = v} e F (second {t = t} {p = p} {q = q} {ws = ws} i) = λ more s.
-    read_second (skips_behind t (begins v q) e (fades v q) (λ s. and_second (implies (begins v p s) (t s)) (apart (t s) (begins v q s) (fades v q) (e s)) (F.3 s)) ws more (firsts e F.1 i) s) (reads e F.1 i more s)
+    read_second (skips_behind t (begins v q) e (fades v q) (λ s.
+    and_second (implies (begins v p s) (t s)) (apart (t s) (begins v q s) (fades v q) (e s)) (F.3 s)) ws more (firsts e F.1 i) s) (reads e F.1 i more s)
 reads e F (one_number w h n i) = λ more s. read_number h n (reads e (F.0 w) i more s)
 reads {v = v} e F (no_number {q = q} {ws = ws} i) = λ more s.
     read_no_number (skips_behind is_number (begins v q) e (fades v q) F.2 ws more (firsts e F.1 i) s) (reads e F.1 i more s)

@@ -7,7 +7,9 @@ use Rattle.xpath_grammar.specs.Words.{Word}
 use Rattle.xpath_grammar.specs.Signs.{is_number}
 use Rattle.xpath_grammar.specs.Productions.{Nonterminal, Production}
 use Rattle.xpath_grammar.specs.Trees.{Limit}
-use Rattle.xpath_grammar.specs.Reading.{Answer, Starts, Skips, Reads, read_nothing, read_word, read_wrong, read_parts, read_part_fails, read_first, read_second, read_number, read_refused, read_no_number, read_level, read_level_fails, read_too_deep, read_no_level}
+use Rattle.xpath_grammar.specs.Reading.{Answer, Starts, Skips, Reads, read_nothing, read_word, read_wrong, read_parts, read_part_fails, read_first}
+use Rattle.xpath_grammar.specs.Reading.{read_second, read_number, read_refused, read_no_number, read_level, read_level_fails, read_too_deep}
+use Rattle.xpath_grammar.specs.Reading.{read_no_level}
 
 abbrev ok_or : {X E : Type 0} → X → Result X E → X
 ok_or x (Ok y) = y

@@ -75,7 +75,8 @@ one_why f d v a cause.TooDeep cause.Syntax [] p q = absurd p
 one_why f d v a (cause.Literal n) cause.TooDeep [] p q = absurd p
 one_why f d v a cause.TooDeep (cause.Literal n) [] p q = absurd p
 
-one_place : (f : Limit) (d : ℕ) (v : Nonterminal) (a b c e : List Word) (k l : Cause) → Splits a b c e → IsFront f d v a → IsFront f d v c → Halts f d v a b → Halts f d v c e → IsWhy f d v a k b → IsWhy f d v c l e → ◌≡◌ {A = Cause × List Word} (k, b) (l, e)
+one_place : (f : Limit) (d : ℕ) (v : Nonterminal) (a b c e : List Word) (k l : Cause) → Splits a b c e → IsFront f d v a → IsFront f d v c
+    → Halts f d v a b → Halts f d v c e → IsWhy f d v a k b → IsWhy f d v c l e → ◌≡◌ {A = Cause × List Word} (k, b) (l, e)
 one_place f d v a b c e k l alike fa fc ha hc wa wc = ap (λ k. (k, b)) (one_why f d v a k l b wa wc)
 one_place f d v a b c e k l (later x m) fa fc ha hc wa wc = absurd (ha (front_of f d v a x m fc))
 one_place f d v a b c e k l (earlier x m) fa fc ha hc wa wc = absurd (hc (front_of f d v c x m fa))

@@ -6,7 +6,9 @@ use Rattle.xpath_grammar.specs.declared.sign.Cause.TheVariants as cause
 use Rattle.xpath_grammar.specs.Words.{Word}
 use Rattle.xpath_grammar.specs.Productions.{Nonterminal, Tree, Production}
 use Rattle.xpath_grammar.specs.Trees.{Limit, Derives, nothing, one_word, two_parts, first, second, one_number, no_number, in_level, no_level}
-use Rattle.xpath_grammar.specs.Reading.{Answer, Starts, Skips, Reads, read_nothing, read_word, read_wrong, read_parts, read_part_fails, read_first, read_second, read_number, read_refused, read_no_number, read_level, read_level_fails, read_too_deep, read_no_level}
+use Rattle.xpath_grammar.specs.Reading.{Answer, Starts, Skips, Reads, read_nothing, read_word, read_wrong, read_parts, read_part_fails, read_first}
+use Rattle.xpath_grammar.specs.Reading.{read_second, read_number, read_refused, read_no_number, read_level, read_level_fails, read_too_deep}
+use Rattle.xpath_grammar.specs.Reading.{read_no_level}
 
 abbrev pub deeper : ℕ → ℕ → ℕ
 deeper zero e = e
@@ -31,7 +33,8 @@ abbrev pub IsFree : {X : Type 0} → Result X (Cause × List Word) → Type 0
 IsFree (Ok r) = Unit {0}
 IsFree (Err r) = r.0 ≡ cause.Syntax
 
-pub widen_reads : {f : Limit} {d : ℕ} {v : Nonterminal} {p : Production v} {ws : List Word} {a : Answer v} (g : Limit) (e : ℕ) → Lets f g → IsFree a → Reads f d v p ws a → Reads g (deeper d e) v p ws a
+pub widen_reads : {f : Limit} {d : ℕ} {v : Nonterminal} {p : Production v} {ws : List Word} {a : Answer v} (g : Limit) (e : ℕ) → Lets f g → IsFree a
+    → Reads f d v p ws a → Reads g (deeper d e) v p ws a
 widen_reads g e l c read_nothing = read_nothing
 widen_reads g e l c (read_word t r) = read_word t (widen_reads g e l c r)
 widen_reads g e l c (read_number {w = w} t n r) = read_number t (l w.text n) (widen_reads g e l c r)

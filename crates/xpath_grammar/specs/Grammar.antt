@@ -17,8 +17,13 @@ use Rattle.xpath_grammar.specs.declared.sign.Sign.{Sign}
 use Rattle.xpath_grammar.specs.declared.sign.Sign.TheVariants as sign
 use Rattle.xpath_grammar.specs.declared.sign.Precedence.TheVariants as precedence
 use Rattle.xpath_grammar.specs.Words.{name_of, variable_of, in_prefix_of, literal_of, number_of}
-use Rattle.xpath_grammar.specs.Signs.{tighter, is_operator, is_minus, is_slash, is_slashes, is_open, is_close, is_open_square, is_close_square, is_point, is_points, is_at, is_comma, is_colons, is_plain_name, is_in_prefix, is_star, is_variable, is_id, is_key, is_function, is_node_type, is_instruction, is_literal, is_name_literal, is_axis, is_pattern_axis, axis_of, op_of, begins_step, begins_pattern_step, begins_primary, begins_expression}
-use Rattle.xpath_grammar.specs.Productions.{Nonterminal, level, more, primary, predicates, relative_tail, call, arguments, more_arguments, location, steps, more_steps, step, tested, node_test, pattern, more_patterns, pattern_path, pattern_steps, more_pattern_steps, pattern_step, Production, gives, word, part, either, number, nested}
+use Rattle.xpath_grammar.specs.Signs.{tighter, is_operator, is_minus, is_slash, is_slashes, is_open, is_close, is_open_square, is_close_square}
+use Rattle.xpath_grammar.specs.Signs.{is_point, is_points, is_at, is_comma, is_colons, is_plain_name, is_in_prefix, is_star, is_variable, is_id, is_key}
+use Rattle.xpath_grammar.specs.Signs.{is_function, is_node_type, is_instruction, is_literal, is_name_literal, is_axis, is_pattern_axis, axis_of, op_of}
+use Rattle.xpath_grammar.specs.Signs.{begins_step, begins_pattern_step, begins_primary, begins_expression}
+use Rattle.xpath_grammar.specs.Productions.{Nonterminal, level, more, primary, predicates, relative_tail, call, arguments, more_arguments, location}
+use Rattle.xpath_grammar.specs.Productions.{steps, more_steps, step, tested, node_test, pattern, more_patterns, pattern_path, pattern_steps}
+use Rattle.xpath_grammar.specs.Productions.{more_pattern_steps, pattern_step, Production, gives, word, part, either, number, nested}
 
 abbrev pub step_of : AxisName → TestExpr → List Expr → StepExpr
 step_of a t ps = roll-StepExpr (record { axis = a; test = t; predicates = ps })

@@ -10,7 +10,8 @@ use Rattle.xpath_grammar.specs.declared.sign.Precedence.TheVariants as precedenc
 use Rattle.xpath_parse.specs.declared.error.ParseError.{ParseError}
 use Rattle.xpath_parse.specs.declared.error.ParseError.TheVariants as error
 use Rattle.xpath_parse.specs.Places.{Spells, IsRefusal}
-use Rattle.xpath_parse.specs.Templates.{is_brace, quote_after, quote_behind, Begins, IsInner, IsExpression, with_byte, moved, IsTemplate, end, plain, doubled, value, IsRefused, past_plain, past_doubled, past_value, lone, unclosed, in_value}
+use Rattle.xpath_parse.specs.Templates.{is_brace, quote_after, quote_behind, Begins, IsInner, IsExpression, with_byte, moved, IsTemplate, end, plain}
+use Rattle.xpath_parse.specs.Templates.{doubled, value, IsRefused, past_plain, past_doubled, past_value, lone, unclosed, in_value}
 use Rattle.xpath_parse.proofs.OneAnswer.{one_tree, one_refusal, not_both}
 
 -- where an expression ends
@@ -159,23 +160,27 @@ one_list (value {bs = bs} {ps = ps} {e = e} inner E s t) qs u =
     ap₂ (λ x xs. part.Value x ∷ xs) (one_tree (rule.level precedence.Or) inner e v.0 s spelled) (one_list t v.1 behind) ∙ sym v.2
 
 -- behind an expression that is read, and in one that is refused
-past_read : (inner bs : List ℕ) (e : Expr) (r s : ParseError) → Spells (rule.level precedence.Or) inner e → ((q : ParseError) → IsRefused bs q → r ≡ q) → Refuses (123 ∷ (inner ++ 125 ∷ bs)) (opened (length inner)) s → moved (length inner + 2) r ≡ s
+past_read : (inner bs : List ℕ) (e : Expr) (r s : ParseError) → Spells (rule.level precedence.Or) inner e → ((q : ParseError) → IsRefused bs q → r ≡ q)
+    → Refuses (123 ∷ (inner ++ 125 ∷ bs)) (opened (length inner)) s → moved (length inner + 2) r ≡ s
 past_read inner bs e r s read one (inl w) = absurd (not_both (rule.level precedence.Or) inner e w.0 read (subst (λ l. IsRefusal (rule.level precedence.Or) l w.0) (inner_is inner (125 ∷ bs)) w.2))
 past_read inner bs e r s read one (inr w) = ap (moved (length inner + 2)) (one w.1 (subst (λ l. IsRefused l w.1) (behind_is inner bs) w.4)) ∙ sym w.2
 
 in_refused : (inner bs : List ℕ) (r s : ParseError) → IsRefusal (rule.level precedence.Or) inner r → Refuses (123 ∷ (inner ++ 125 ∷ bs)) (opened (length inner)) s → moved 1 r ≡ s
-in_refused inner bs r s refused (inl w) = ap (moved 1) (one_refusal (rule.level precedence.Or) inner r w.0 refused (subst (λ l. IsRefusal (rule.level precedence.Or) l w.0) (inner_is inner (125 ∷ bs)) w.2)) ∙ sym w.1
+in_refused inner bs r s refused (inl w) = ap (moved 1)
+    (one_refusal (rule.level precedence.Or) inner r w.0 refused (subst (λ l. IsRefusal (rule.level precedence.Or) l w.0) (inner_is inner (125 ∷ bs)) w.2)) ∙ sym w.1
 in_refused inner bs r s refused (inr w) = absurd (not_both (rule.level precedence.Or) inner w.0 r (subst (λ l. Spells (rule.level precedence.Or) l w.0) (inner_is inner (125 ∷ bs)) w.3) refused)
 
 pub one_first : {text : List ℕ} {r : ParseError} → IsRefused text r → (s : ParseError) → IsRefused text s → r ≡ s
 one_first (past_plain {bs = bs} b e t) s u = let v = subst (λ f. Refuses (b ∷ bs) f s) (front_text b bs e) (refuses u) in ap (moved 1) (one_first t v.0 v.2) ∙ sym v.1
 one_first (past_doubled {bs = bs} b e t) s u = let v = subst (λ f. Refuses (b ∷ b ∷ bs) f s) (front_doubled b bs e) (refuses u) in ap (moved 2) (one_first t v.0 v.2) ∙ sym v.1
-one_first (past_value {bs = bs} {r = r} {e = e} inner E read t) s u = past_read inner bs e r s read (one_first t) (subst (λ f. Refuses (123 ∷ (inner ++ 125 ∷ bs)) f s) (front_value inner bs E) (refuses u))
+one_first (past_value {bs = bs} {r = r} {e = e} inner E read t) s u =
+    past_read inner bs e r s read (one_first t) (subst (λ f. Refuses (123 ∷ (inner ++ 125 ∷ bs)) f s) (front_value inner bs E) (refuses u))
 one_first (lone {bs = bs} h) s u = sym (subst (λ f. Refuses (125 ∷ bs) f s) (front_lone bs h) (refuses u))
 one_first (unclosed {bs = bs} h inner) s u = sym (subst (λ f. Refuses (123 ∷ bs) f s) (front_unclosed bs h inner) (refuses u))
 one_first (in_value inner bs r E refused) s u = in_refused inner bs r s refused (subst (λ f. Refuses (123 ∷ (inner ++ 125 ∷ bs)) f s) (front_value inner bs E) (refuses u))
 
-past_none : (inner bs : List ℕ) (e : Expr) (r : ParseError) → Spells (rule.level precedence.Or) inner e → ((q : ParseError) → IsRefused bs q → ⊥) → Refuses (123 ∷ (inner ++ 125 ∷ bs)) (opened (length inner)) r → ⊥
+past_none : (inner bs : List ℕ) (e : Expr) (r : ParseError) → Spells (rule.level precedence.Or) inner e → ((q : ParseError) → IsRefused bs q → ⊥)
+    → Refuses (123 ∷ (inner ++ 125 ∷ bs)) (opened (length inner)) r → ⊥
 past_none inner bs e r read never (inl w) = not_both (rule.level precedence.Or) inner e w.0 read (subst (λ l. IsRefusal (rule.level precedence.Or) l w.0) (inner_is inner (125 ∷ bs)) w.2)
 past_none inner bs e r read never (inr w) = never w.1 (subst (λ l. IsRefused l w.1) (behind_is inner bs) w.4)
 

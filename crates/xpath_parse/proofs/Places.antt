@@ -34,7 +34,8 @@ rest_is us read rest n k e m s =
     sym (drop-append_seam read rest) ∙ (ap (λ k. drop k (read ++ rest)) (sym h) ∙ ap (drop k) (sym e))
 
 -- what is refused with so many words left is refused at the first of their tokens
-pub refused_at : (v : Nonterminal) (text : List ℕ) (ts : List Token) (ws : List Word) (c : Cause) (n k : ℕ) → TokensOf text ts → WordsAre text ts ws → Whole v (seen ws) (Err (stop.Refused c n)) → k ≡ length ws - n → RefusedAt v text c (place_of text c (drop k ts))
+pub refused_at : (v : Nonterminal) (text : List ℕ) (ts : List Token) (ws : List Word) (c : Cause) (n k : ℕ) → TokensOf text ts → WordsAre text ts ws
+    → Whole v (seen ws) (Err (stop.Refused c n)) → k ≡ length ws - n → RefusedAt v text c (place_of text c (drop k ts))
 refused_at v text ts ws c n k tokens are whole left =
     let whole_text : take k ts ++ drop k ts ≡ ts = take-append-drop k ts in
     let here : whole.0 ≡ words_of text (drop k ts) =

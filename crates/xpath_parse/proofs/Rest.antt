@@ -89,26 +89,35 @@ inner_is : (text : List ℕ) (at n : ℕ) → take n (drop (at + 1) text) ≡ in
 inner_is text at n = ap (take n) (sym (drop_drop text at 1 (at + 1) refl))
 
 parts_are : (parts : List Part) (plain : List ℕ) (e : Expr) (ps : List Part) → parts ++ joined plain (part.Value e ∷ ps) ≡ ((parts ++ plain_part plain) ++ part.Value e ∷ []) ++ ps
-parts_are parts plain e ps = ap (λ l. parts ++ l) (joined_value plain e ps) ∙ (sym (append_assoc parts (plain_part plain) (part.Value e ∷ ps)) ∙ sym (append_assoc (parts ++ plain_part plain) (part.Value e ∷ []) ps))
+parts_are parts plain e ps = ap (λ l. parts ++ l) (joined_value plain e ps)
+    ∙ (sym (append_assoc parts (plain_part plain) (part.Value e ∷ ps)) ∙ sym (append_assoc (parts ++ plain_part plain) (part.Value e ∷ []) ps))
 
-pub value_more : (text : List ℕ) (parts : List Part) (plain : List ℕ) (at n : ℕ) (e : Expr) → Rest text parts plain at → IsValue (drop at text) n → Spells (rule.level precedence.Or) (take n (drop (at + 1) text)) e → Rest text ((parts ++ plain_part plain) ++ part.Value e ∷ []) [] (at + (n + 2))
+pub value_more : (text : List ℕ) (parts : List Part) (plain : List ℕ) (at n : ℕ) (e : Expr) → Rest text parts plain at → IsValue (drop at text) n
+    → Spells (rule.level precedence.Or) (take n (drop (at + 1) text)) e → Rest text ((parts ++ plain_part plain) ++ part.Value e ∷ []) [] (at + (n + 2))
 value_more text parts plain at n e R V s =
     let inner = inner_of text at n in
     let spelled = subst (λ l. Spells (rule.level precedence.Or) l e) (inner_is text at n) s in
     let d = drop_drop text at (n + 2) (at + (n + 2)) refl in
     let len : at + (length inner + 2) ≡ at + (n + 2) = omega (arith, V.len) in record {
       within = omega (arith, value_len (drop at text) n V, R.within, length-drop at text);
-      read = λ ps t. subst (IsTemplate text) (parts_are parts plain e ps) (R.read (part.Value e ∷ ps) (subst (λ l. IsTemplate l (part.Value e ∷ ps)) (sym V.is) (value inner V.expression spelled (subst (λ l. IsTemplate l ps) (sym d) t))));
-      refused = λ r t. subst (IsRefused text) (moved_moved at (length inner + 2) (at + (n + 2)) r len) (R.refused (moved (length inner + 2) r) (subst (λ l. IsRefused l (moved (length inner + 2) r)) (sym V.is) (past_value inner V.expression spelled (subst (λ l. IsRefused l r) (sym d) t))));
+      read = λ ps t. subst (IsTemplate text) (parts_are parts plain e ps)
+          (R.read (part.Value e ∷ ps) (subst (λ l. IsTemplate l (part.Value e ∷ ps)) (sym V.is)
+          (value inner V.expression spelled (subst (λ l. IsTemplate l ps) (sym d) t))));
+      refused = λ r t. subst (IsRefused text) (moved_moved at (length inner + 2) (at + (n + 2)) r len)
+          (R.refused (moved (length inner + 2) r) (subst (λ l. IsRefused l (moved (length inner + 2) r)) (sym V.is)
+          (past_value inner V.expression spelled (subst (λ l. IsRefused l r) (sym d) t))));
     }
 
-stops_within : (text : List ℕ) (parts : List Part) (plain : List ℕ) (at n : ℕ) (r e : ParseError) → Rest text parts plain at → IsValue (drop at text) n → IsRefusal (rule.level precedence.Or) (take n (drop (at + 1) text)) r → e ≡ moved (at + 1) r → IsRefused text e
+stops_within : (text : List ℕ) (parts : List Part) (plain : List ℕ) (at n : ℕ) (r e : ParseError) → Rest text parts plain at → IsValue (drop at text) n
+    → IsRefusal (rule.level precedence.Or) (take n (drop (at + 1) text)) r → e ≡ moved (at + 1) r → IsRefused text e
 stops_within text parts plain at n r e R V s is =
     let inner = inner_of text at n in
     let here = subst (λ l. IsRefusal (rule.level precedence.Or) l r) (inner_is text at n) s in
-    subst (IsRefused text) (moved_moved at 1 (at + 1) r refl ∙ sym is) (R.refused (moved 1 r) (subst (λ l. IsRefused l (moved 1 r)) (sym V.is) (in_value inner (drop (n + 2) (drop at text)) r V.expression here)))
+    subst (IsRefused text) (moved_moved at 1 (at + 1) r refl
+    ∙ sym is) (R.refused (moved 1 r) (subst (λ l. IsRefused l (moved 1 r)) (sym V.is) (in_value inner (drop (n + 2) (drop at text)) r V.expression here)))
 
-pub stops_in_value : (text : List ℕ) (parts : List Part) (plain : List ℕ) (at n : ℕ) (e : ParseError) → Rest text parts plain at → IsValue (drop at text) n → AnswersValue (at + 1) (take n (drop (at + 1) text)) (Err e) → AnswersTemplate text (Err e)
+pub stops_in_value : (text : List ℕ) (parts : List Part) (plain : List ℕ) (at n : ℕ) (e : ParseError) → Rest text parts plain at
+    → IsValue (drop at text) n → AnswersValue (at + 1) (take n (drop (at + 1) text)) (Err e) → AnswersTemplate text (Err e)
 stops_in_value text parts plain at n (error.Lex p) R V a = stops_within text parts plain at n a.0 (error.Lex p) R V a.1 a.2
 stops_in_value text parts plain at n (error.Syntax p) R V a = stops_within text parts plain at n a.0 (error.Syntax p) R V a.1 a.2
 stops_in_value text parts plain at n (error.FractionLiteral p) R V a = stops_within text parts plain at n a.0 (error.FractionLiteral p) R V a.1 a.2

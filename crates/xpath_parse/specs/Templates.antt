@@ -54,7 +54,8 @@ pub data IsTemplate : List ℕ → List Part → Type 0 where
   end : IsTemplate [] []
   plain : {bs : List ℕ} {ps : List Part} (b : ℕ) → is_brace b ≡ false → IsTemplate bs ps → IsTemplate (b ∷ bs) (with_byte b ps)
   doubled : {bs : List ℕ} {ps : List Part} (b : ℕ) → is_brace b ≡ true → IsTemplate bs ps → IsTemplate (b ∷ b ∷ bs) (with_byte b ps)
-  value : {bs : List ℕ} {ps : List Part} {e : Expr} (inner : List ℕ) → IsExpression inner → Spells (rule.level precedence.Or) inner e → IsTemplate bs ps → IsTemplate (123 ∷ (inner ++ 125 ∷ bs)) (part.Value e ∷ ps)
+  value : {bs : List ℕ} {ps : List Part} {e : Expr} (inner : List ℕ) → IsExpression inner → Spells (rule.level precedence.Or) inner e → IsTemplate bs ps
+      → IsTemplate (123 ∷ (inner ++ 125 ∷ bs)) (part.Value e ∷ ps)
 
 -- a refusal that is moved to the right
 abbrev pub moved : ℕ → ParseError → ParseError
@@ -69,7 +70,8 @@ moved n error.Memory = error.Memory
 pub data IsRefused : List ℕ → ParseError → Type 0 where
   past_plain : {bs : List ℕ} {r : ParseError} (b : ℕ) → is_brace b ≡ false → IsRefused bs r → IsRefused (b ∷ bs) (moved 1 r)
   past_doubled : {bs : List ℕ} {r : ParseError} (b : ℕ) → is_brace b ≡ true → IsRefused bs r → IsRefused (b ∷ b ∷ bs) (moved 2 r)
-  past_value : {bs : List ℕ} {r : ParseError} {e : Expr} (inner : List ℕ) → IsExpression inner → Spells (rule.level precedence.Or) inner e → IsRefused bs r → IsRefused (123 ∷ (inner ++ 125 ∷ bs)) (moved (length inner + 2) r)
+  past_value : {bs : List ℕ} {r : ParseError} {e : Expr} (inner : List ℕ) → IsExpression inner → Spells (rule.level precedence.Or) inner e → IsRefused bs r
+      → IsRefused (123 ∷ (inner ++ 125 ∷ bs)) (moved (length inner + 2) r)
   -- a `}` alone; an expression without its `}`; an expression that is refused
   lone : {bs : List ℕ} → (Begins 125 bs → ⊥) → IsRefused (125 ∷ bs) (error.Syntax 0)
   unclosed : {bs : List ℕ} → (Begins 123 bs → ⊥) → IsInner bs → IsRefused (123 ∷ bs) (error.Syntax (suc (length bs)))

@@ -8,9 +8,6 @@ mod place;
 mod templates;
 
 pub use error::ParseError;
-pub use laws::one_answer;
+pub use laws::{an_answer, one_answer};
 pub use parse::{expression, pattern};
-pub use templates::{one_template, value_template};
-
-#[cfg(test)]
-mod tests;
+pub use templates::{a_template, one_template, value_template};

@@ -49,7 +49,8 @@ fn refused(cause: Cause, words: &[Word], end: usize) -> ParseError
 
 /// A refusal with its place in the text.
 pub fn with_place(stop: ParseStop, words: &[Word], end: usize) -> ParseError
-    ensures { (v : Nonterminal) (text : List ℕ) (ts : List Token) → TokensOf text ts → WordsAre text ts words.now → length text ≡ end → Whole v (seen words.now) (Err stop) → Answers v text (Err result) }
+    ensures { (v : Nonterminal) (text : List ℕ) (ts : List Token) → TokensOf text ts
+        → WordsAre text ts words.now → length text ≡ end → Whole v (seen words.now) (Err stop) → Answers v text (Err result) }
 {
     match stop {
         ParseStop::Memory => ParseError::Memory,

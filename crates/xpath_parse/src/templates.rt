@@ -1,8 +1,9 @@
 //! Attribute value templates (XSLT 1.0, 7.6.2).
 
-ghost use Rattle.std.specs.Prelude.{◌≡◌, ◌+◌, ◌<◌, ◌∷◌, ◌++◌, ◌^◌, ◌↔◌, [], drop, length, take, ℕ, List, IsTrue, OnOk, MatchOption};
+ghost use Rattle.std.specs.Prelude.{◌≡◌, ◌+◌, ◌<◌, ◌∷◌, ◌++◌, ◌^◌, ◌↔◌, [], drop, length, take, ℕ, List, Result, Ok, Err, IsTrue, OnOk, MatchOption};
 ghost use Rattle.xpath_syntax.specs.declared.pattern.Part.{Part};
 ghost use Rattle.xpath_parse.specs.declared.error.ParseError.{ParseError};
+ghost use Rattle.xpath_parse.specs.declared.error.ParseError.TheVariants as error;
 ghost use Rattle.xpath_parse.specs.Pieces.{AnswersValue, Closes, IsPiece, IsValue, place, plain_part};
 ghost use Rattle.xpath_parse.specs.Templates as spec;
 ghost use Rattle.xpath_parse.specs.Templates.{AnswersTemplate, Begins, IsInner, IsRefused, IsTemplate, moved};
@@ -158,9 +159,21 @@ pub fn value_template(alloc: Global, text: &str) -> Result<List<Part>, ParseErro
     Ok(parts)
 }
 
-/// A template has at most one list of parts, or one first refusal, and never both.
+/// A template has at most one list of parts, or one first refusal, and never both. So each answer of `value_template`
+/// comes exactly where its meaning holds, unless memory runs out.
 pub fn one_template()
     ensures parts { (text : List ℕ) (ps qs : List Part) → IsTemplate text ps → IsTemplate text qs → ps ≡ qs }
     ensures refusal { (text : List ℕ) (e f : ParseError) → IsRefused text e → IsRefused text f → e ≡ f }
     ensures not_both { (text : List ℕ) (ps : List Part) (e : ParseError) → IsTemplate text ps → IsRefused text e → ⊥ }
+    ensures only { (text : List ℕ) (ps : List Part) (r : Result (List Part) ParseError)
+        → IsTemplate text ps → AnswersTemplate text r → (r ≡ Err error.Memory → ⊥) → r ≡ Ok ps }
+    ensures refused { (text : List ℕ) (e : ParseError) (r : Result (List Part) ParseError)
+        → IsRefused text e → AnswersTemplate text r → (r ≡ Err error.Memory → ⊥) → r ≡ Err e }
+{}
+
+/// A template has an answer that is no want of memory, and only one.
+pub fn a_template()
+    ensures some { (text : List ℕ) → (r : Result (List Part) ParseError) × AnswersTemplate text r × (r ≡ Err error.Memory → ⊥) }
+    ensures one { (text : List ℕ) (r s : Result (List Part) ParseError)
+        → AnswersTemplate text r → (r ≡ Err error.Memory → ⊥) → AnswersTemplate text s → (s ≡ Err error.Memory → ⊥) → r ≡ s }
 {}

@@ -55,7 +55,8 @@ has_bytes : (bs : List ℕ) (n : ℕ) (f : Form) (a : Cut) → a ≡ Some (f, n)
 has_bytes bs n f None e h = cc
 has_bytes bs n f (Some x) e h = let g : x.1 ≡ n = cc in omega (arith, h.0)
 
-at_token : (bs : List ℕ) (at n : ℕ) (operand : Bool) (f : Form) (k : TokenKind) → IsLongest bs n f → kind_of operand f (take n bs) (drop n bs) ≡ Some k → lex bs 0 at operand ≡ put (record { kind = k; at = at; len = n }) (lex (drop n bs) 0 (at + n) (ends_operand f k))
+at_token : (bs : List ℕ) (at n : ℕ) (operand : Bool) (f : Form) (k : TokenKind) → IsLongest bs n f → kind_of operand f (take n bs) (drop n bs) ≡ Some k
+    → lex bs 0 at operand ≡ put (record { kind = k; at = at; len = n }) (lex (drop n bs) 0 (at + n) (ends_operand f k))
 at_token [] at n operand f k L e = let g = one_cut [] n f L in cc
 at_token (b ∷ bs) at zero operand f k L e = let h = has_bytes (b ∷ bs) zero f (cut (b ∷ bs)) (one_cut (b ∷ bs) zero f L) (cut_is (b ∷ bs)) in absurd (omega arith)
 at_token (b ∷ bs) at (suc n) operand f k L e =

@@ -9,8 +9,10 @@ use Rattle.name_grammar.specs.Names.{is_name_start, is_name_byte, is_ncname, IsN
 use Rattle.xpath_syntax.specs.declared.form.Form.{Form}
 use Rattle.xpath_syntax.specs.declared.form.Form.TheVariants as form
 use Rattle.xpath_syntax.specs.declared.form.Class.TheVariants as class
-use Rattle.xpath_syntax.specs.Forms.{Spells, double_quoted, single_quoted, digits, digits_point, point_digits, name, in_prefix, star, variable, sign, slashes, with_equal, opening, colons, closing, points}
-use Rattle.xpath_syntax.specs.Scan.{class_of_sign, class_of, begins, fraction_len, number_len, local_len, name_len, has_star, Cut, one_or_two, cut_quoted, cut_point, cut_name, cut_variable, cut_in, cut}
+use Rattle.xpath_syntax.specs.Forms.{Spells, double_quoted, single_quoted, digits, digits_point, point_digits, name, in_prefix, star, variable, sign}
+use Rattle.xpath_syntax.specs.Forms.{slashes, with_equal, opening, colons, closing, points}
+use Rattle.xpath_syntax.specs.Scan.{class_of_sign, class_of, begins, fraction_len, number_len, local_len, name_len, has_star, Cut, one_or_two}
+use Rattle.xpath_syntax.specs.Scan.{cut_quoted, cut_point, cut_name, cut_variable, cut_in, cut}
 use Rattle.xpath_syntax.proofs.Front.{Stops, fails, and_first, and_second, front_len, front_least, front_drop, Each, each}
 
 -- a front of m bytes is no longer than the token, and is it where they are equally long
@@ -37,10 +39,13 @@ covers_then : (g : Form) (m : ℕ) (x : Form × ℕ) (other : Cut) (t : Bool) �
 covers_then g m x other t e c = subst (λ t. Covers g m (if t then Some x else other)) (sym e) c
 
 -- literals
-cover_quoted : (quote : ℕ) (text rest : List ℕ) → list_all (λ b. not (b == quote)) text ≡ true → not (quote == quote) ≡ false → Covers form.Literal (suc (length (text ++ quote ∷ []))) (cut_quoted quote ((text ++ quote ∷ []) ++ rest))
+cover_quoted : (quote : ℕ) (text rest : List ℕ) → list_all (λ b. not (b == quote)) text ≡ true → not (quote == quote) ≡ false
+    → Covers form.Literal (suc (length (text ++ quote ∷ []))) (cut_quoted quote ((text ++ quote ∷ []) ++ rest))
 cover_quoted quote text rest all stop =
     let bs = (text ++ quote ∷ []) ++ rest in
-    let len : prefix_len (λ b. not (b == quote)) bs ≡ length text = ap (prefix_len (λ b. not (b == quote))) (append_assoc text (quote ∷ []) rest) ∙ front_len (λ b. not (b == quote)) text (quote ∷ rest) all (fails quote rest stop) in
+    let len : prefix_len (λ b. not (b == quote)) bs ≡ length text =
+    ap (prefix_len (λ b. not (b == quote))) (append_assoc text (quote ∷ []) rest)
+    ∙ front_len (λ b. not (b == quote)) text (quote ∷ rest) all (fails quote rest stop) in
     let size : length bs ≡ length text + 1 + length rest = omega (arith, length-append (text ++ quote ∷ []) rest, length-append text (quote ∷ [])) in
     let less : prefix_len (λ b. not (b == quote)) bs < length bs = omega arith in
     let test : nat_lt (prefix_len (λ b. not (b == quote)) bs) (length bs) ≡ true = grind (arith, nat_tests, less) in
@@ -58,7 +63,8 @@ point_least : (bs fraction rest : List ℕ) → list_all is_ascii_digit bs ≡ t
 point_least bs fraction rest all all' =
     let stops : Stops is_ascii_digit (46 ∷ (fraction ++ rest)) = fails 46 (fraction ++ rest) refl in
     let len = front_len is_ascii_digit bs (46 ∷ (fraction ++ rest)) all stops in
-    let behind : fraction_len (drop (prefix_len is_ascii_digit (bs ++ 46 ∷ (fraction ++ rest))) (bs ++ 46 ∷ (fraction ++ rest))) ≡ suc (prefix_len is_ascii_digit (fraction ++ rest)) = ap fraction_len (front_drop is_ascii_digit bs (46 ∷ (fraction ++ rest)) all stops) in
+    let behind : fraction_len (drop (prefix_len is_ascii_digit (bs ++ 46 ∷ (fraction ++ rest))) (bs ++ 46 ∷ (fraction ++ rest))) ≡ suc
+    (prefix_len is_ascii_digit (fraction ++ rest)) = ap fraction_len (front_drop is_ascii_digit bs (46 ∷ (fraction ++ rest)) all stops) in
     let h = front_least is_ascii_digit fraction rest all' in
     omega arith
 
@@ -67,17 +73,20 @@ cover_digits [] rest some all = absurd (omega arith)
 cover_digits (b ∷ bs) rest some all =
     cover_digit b bs (bs ++ rest) (and_first (is_ascii_digit b) (list_all is_ascii_digit bs) all) (digits_least bs rest (and_second (is_ascii_digit b) (list_all is_ascii_digit bs) all))
 
-cover_digits_point : (whole fraction rest : List ℕ) → 0 < length whole → list_all is_ascii_digit whole ≡ true → list_all is_ascii_digit fraction ≡ true → Covers form.Number (length (whole ++ 46 ∷ fraction)) (cut ((whole ++ 46 ∷ fraction) ++ rest))
+cover_digits_point : (whole fraction rest : List ℕ) → 0 < length whole → list_all is_ascii_digit whole ≡ true → list_all is_ascii_digit fraction ≡ true
+    → Covers form.Number (length (whole ++ 46 ∷ fraction)) (cut ((whole ++ 46 ∷ fraction) ++ rest))
 cover_digits_point [] fraction rest some all all' = absurd (omega arith)
 cover_digits_point (b ∷ bs) fraction rest some all all' =
     let h : length (bs ++ 46 ∷ fraction) ≤ number_len ((bs ++ 46 ∷ fraction) ++ rest) =
-    subst (λ t. length (bs ++ 46 ∷ fraction) ≤ number_len t) (sym (append_assoc bs (46 ∷ fraction) rest)) (omega (arith, length-append bs (46 ∷ fraction), point_least bs fraction rest (and_second (is_ascii_digit b) (list_all is_ascii_digit bs) all) all')) in
+    subst (λ t. length (bs ++ 46 ∷ fraction) ≤ number_len t) (sym (append_assoc bs (46 ∷ fraction) rest))
+    (omega (arith, length-append bs (46 ∷ fraction), point_least bs fraction rest (and_second (is_ascii_digit b) (list_all is_ascii_digit bs) all) all')) in
     cover_digit b (bs ++ 46 ∷ fraction) ((bs ++ 46 ∷ fraction) ++ rest) (and_first (is_ascii_digit b) (list_all is_ascii_digit bs) all) h
 
 cover_point_digits : (fraction rest : List ℕ) → 0 < length fraction → list_all is_ascii_digit fraction ≡ true → Covers form.Number (suc (length fraction)) (cut_point (fraction ++ rest))
 cover_point_digits [] rest some all = absurd (omega arith)
 cover_point_digits (b ∷ bs) rest some all =
-    covers_then form.Number (suc (suc (length bs))) (form.Number, suc (prefix_len is_ascii_digit ((b ∷ bs) ++ rest))) (one_or_two form.Closing (begins (λ c. c == 46) ((b ∷ bs) ++ rest))) (is_ascii_digit b) (and_first (is_ascii_digit b) (list_all is_ascii_digit bs) all)
+    covers_then form.Number (suc (suc (length bs))) (form.Number, suc (prefix_len is_ascii_digit ((b ∷ bs) ++ rest)))
+    (one_or_two form.Closing (begins (λ c. c == 46) ((b ∷ bs) ++ rest))) (is_ascii_digit b) (and_first (is_ascii_digit b) (list_all is_ascii_digit bs) all)
     (let h = front_least is_ascii_digit (b ∷ bs) rest all in (omega arith, λ same. refl))
 
 -- names
@@ -93,7 +102,8 @@ cover_one bs rest all =
     let n = prefix_len is_name_byte (bs ++ rest) in
     by_star (length bs) n (local_len (drop n (bs ++ rest))) (has_star (drop n (bs ++ rest))) (front_least is_name_byte bs rest all)
 
-cut_name_is : (bs rest : List ℕ) → list_all is_name_byte bs ≡ true → Stops is_name_byte rest → cut_name (bs ++ rest) ≡ (if has_star rest then Some (form.InPrefix, length bs + 3) else Some (form.Name, suc (length bs + local_len rest)))
+cut_name_is : (bs rest : List ℕ) → list_all is_name_byte bs ≡ true → Stops is_name_byte rest
+    → cut_name (bs ++ rest) ≡ (if has_star rest then Some (form.InPrefix, length bs + 3) else Some (form.Name, suc (length bs + local_len rest)))
 cut_name_is bs rest all stops =
     ap (λ n. if has_star (drop n (bs ++ rest)) then Some (form.InPrefix, n + 3) else Some (form.Name, suc (n + local_len (drop n (bs ++ rest))))) (front_len is_name_byte bs rest all stops)
     ∙ ap (λ r. if has_star r then Some (form.InPrefix, length bs + 3) else Some (form.Name, suc (length bs + local_len r))) (drop-append_seam bs rest)
@@ -101,7 +111,8 @@ cut_name_is bs rest all stops =
 local_is : (b : ℕ) (bs : List ℕ) → is_name_start b ≡ true → local_len (58 ∷ b ∷ bs) ≡ suc (suc (prefix_len is_name_byte bs))
 local_is b bs e = ap (λ t. if t then suc (suc (prefix_len is_name_byte bs)) else 0) e
 
-cover_two : (bs : List ℕ) (c : ℕ) (cs rest : List ℕ) → list_all is_name_byte bs ≡ true → is_name_start c ≡ true → list_all is_name_byte cs ≡ true → Covers form.Name (suc (length (bs ++ 58 ∷ c ∷ cs))) (cut_name ((bs ++ 58 ∷ c ∷ cs) ++ rest))
+cover_two : (bs : List ℕ) (c : ℕ) (cs rest : List ℕ) → list_all is_name_byte bs ≡ true → is_name_start c ≡ true → list_all is_name_byte cs ≡ true
+    → Covers form.Name (suc (length (bs ++ 58 ∷ c ∷ cs))) (cut_name ((bs ++ 58 ∷ c ∷ cs) ++ rest))
 cover_two bs c cs rest all start all' =
     let is : cut_name ((bs ++ 58 ∷ c ∷ cs) ++ rest) ≡ Some (form.Name, suc (length bs + local_len (58 ∷ c ∷ (cs ++ rest)))) =
     ap cut_name (append_assoc bs (58 ∷ c ∷ cs) rest)
@@ -149,15 +160,18 @@ cover_variable b bs rest e h = covers_then form.Variable (suc (suc (length bs)))
 one_least : (bs rest : List ℕ) → list_all is_name_byte bs ≡ true → length bs ≤ name_len (bs ++ rest)
 one_least bs rest all = let h = front_least is_name_byte bs rest all in omega arith
 
-two_least : (bs : List ℕ) (c : ℕ) (cs rest : List ℕ) → list_all is_name_byte bs ≡ true → is_name_start c ≡ true → list_all is_name_byte cs ≡ true → length (bs ++ 58 ∷ c ∷ cs) ≤ name_len ((bs ++ 58 ∷ c ∷ cs) ++ rest)
+two_least : (bs : List ℕ) (c : ℕ) (cs rest : List ℕ) → list_all is_name_byte bs ≡ true → is_name_start c ≡ true → list_all is_name_byte cs ≡ true
+    → length (bs ++ 58 ∷ c ∷ cs) ≤ name_len ((bs ++ 58 ∷ c ∷ cs) ++ rest)
 two_least bs c cs rest all start all' =
     let stops : Stops is_name_byte (58 ∷ c ∷ (cs ++ rest)) = fails 58 (c ∷ (cs ++ rest)) refl in
     let len = front_len is_name_byte bs (58 ∷ c ∷ (cs ++ rest)) all stops in
-    let behind : local_len (drop (prefix_len is_name_byte (bs ++ 58 ∷ c ∷ (cs ++ rest))) (bs ++ 58 ∷ c ∷ (cs ++ rest))) ≡ suc (suc (prefix_len is_name_byte (cs ++ rest))) = ap local_len (front_drop is_name_byte bs (58 ∷ c ∷ (cs ++ rest)) all stops) ∙ local_is c (cs ++ rest) start in
+    let behind : local_len (drop (prefix_len is_name_byte (bs ++ 58 ∷ c ∷ (cs ++ rest))) (bs ++ 58 ∷ c ∷ (cs ++ rest))) ≡ suc
+    (suc (prefix_len is_name_byte (cs ++ rest))) = ap local_len (front_drop is_name_byte bs (58 ∷ c ∷ (cs ++ rest)) all stops) ∙ local_is c (cs ++ rest) start in
     let h = front_least is_name_byte cs rest all' in
     subst (λ t. length (bs ++ 58 ∷ c ∷ cs) ≤ name_len t) (sym (append_assoc bs (58 ∷ c ∷ cs) rest)) (omega (arith, length-append bs (58 ∷ c ∷ cs)))
 
-cover_variable_joined : (prefix local rest : List ℕ) → is_ncname prefix ≡ true → is_ncname local ≡ true → Covers form.Variable (suc (length (prefix ++ 58 ∷ local))) (cut_variable ((prefix ++ 58 ∷ local) ++ rest))
+cover_variable_joined : (prefix local rest : List ℕ) → is_ncname prefix ≡ true → is_ncname local ≡ true
+    → Covers form.Variable (suc (length (prefix ++ 58 ∷ local))) (cut_variable ((prefix ++ 58 ∷ local) ++ rest))
 cover_variable_joined [] local rest p l = cc
 cover_variable_joined (b ∷ bs) [] rest p l = cc
 cover_variable_joined (b ∷ bs) (c ∷ cs) rest p l =
@@ -176,7 +190,8 @@ by_second : (f : Form) (t : Bool) → Covers f 1 (one_or_two f t)
 by_second f true = (omega arith, λ same. refl)
 by_second f false = (omega arith, λ same. refl)
 
-by_digit : (b : ℕ) (bs : List ℕ) (t : Bool) → is_ascii_digit b ≡ t → Covers form.Closing 1 (if t then Some (form.Number, suc (if t then 1 + prefix_len is_ascii_digit bs else 0)) else one_or_two form.Closing (b == 46))
+by_digit : (b : ℕ) (bs : List ℕ) (t : Bool) → is_ascii_digit b ≡ t
+    → Covers form.Closing 1 (if t then Some (form.Number, suc (if t then 1 + prefix_len is_ascii_digit bs else 0)) else one_or_two form.Closing (b == 46))
 by_digit b bs true e = (omega arith, λ same. absurd (omega arith))
 by_digit b bs false e = by_second form.Closing (b == 46)
 

@@ -1,5 +1,6 @@
 -- The scanner's token is spelled at the front of the text.
-use Rattle.std.proofs.Common.{◌≡◌, refl, sym, ap, ◌∙◌, subst, ℕ, suc, ◌+◌, ◌<◌, List, [], ◌∷◌, ◌++◌, append_assoc, append-nil, Bool, true, false, Some, None, take, drop, get_or, length, length-append, drop-cons, arith}
+use Rattle.std.proofs.Common.{◌≡◌, refl, sym, ap, ◌∙◌, subst, ℕ, suc, ◌+◌, ◌<◌, List, [], ◌∷◌, ◌++◌, append_assoc, append-nil, Bool, true, false, Some}
+use Rattle.std.proofs.Common.{None, take, drop, get_or, length, length-append, drop-cons, arith}
 use Rattle.std.specs.Prelude.{◌&&◌, ◌==◌, if◌then◌else◌, not, nat_lt, codes}
 use Rattle.std.specs.Char.{is_ascii_digit}
 use Rattle.std.specs.List.{prefix_len, list_all}
@@ -12,8 +13,10 @@ use Rattle.xpath_syntax.specs.declared.form.Form.{Form}
 use Rattle.xpath_syntax.specs.declared.form.Form.TheVariants as form
 use Rattle.xpath_syntax.specs.declared.form.Class.{Class}
 use Rattle.xpath_syntax.specs.declared.form.Class.TheVariants as class
-use Rattle.xpath_syntax.specs.Forms.{is_one_of, Spells, double_quoted, single_quoted, digits, digits_point, point_digits, name, in_prefix, star, variable, sign, slashes, with_equal, opening, colons, closing, points}
-use Rattle.xpath_syntax.specs.Scan.{class_of_sign, class_of, begins, fraction_len, number_len, ncname_behind_colon, local_len, name_len, has_star, Cut, one_or_two, cut_quoted, cut_point, cut_variable, cut_in, cut}
+use Rattle.xpath_syntax.specs.Forms.{is_one_of, Spells, double_quoted, single_quoted, digits, digits_point, point_digits, name, in_prefix, star}
+use Rattle.xpath_syntax.specs.Forms.{variable, sign, slashes, with_equal, opening, colons, closing, points}
+use Rattle.xpath_syntax.specs.Scan.{class_of_sign, class_of, begins, fraction_len, number_len, ncname_behind_colon, local_len, name_len, has_star, Cut}
+use Rattle.xpath_syntax.specs.Scan.{one_or_two, cut_quoted, cut_point, cut_variable, cut_in, cut}
 use Rattle.xpath_syntax.proofs.Front.{and_first, and_second, front_and_rest, front_passes, each}
 
 -- what a byte's class says of it
@@ -89,7 +92,9 @@ sound_two f b x [] two = tt
 sound_two f b x (c ∷ bs) two = by_needed f b c x bs (c == x) refl two
 
 -- literals
-by_close : (quote : ℕ) (bs : List ℕ) (t : Bool) → nat_lt (prefix_len (λ b. not (b == quote)) bs) (length bs) ≡ t → ((text : List ℕ) → list_all (λ b. not (b == quote)) text ≡ true → Spells form.Literal (quote ∷ (text ++ quote ∷ []))) → Sound quote bs (if t then Some (form.Literal, prefix_len (λ b. not (b == quote)) bs + 2) else None)
+by_close : (quote : ℕ) (bs : List ℕ) (t : Bool) → nat_lt (prefix_len (λ b. not (b == quote)) bs) (length bs) ≡ t
+    → ((text : List ℕ) → list_all (λ b. not (b == quote)) text ≡ true → Spells form.Literal (quote ∷ (text ++ quote ∷ [])))
+    → Sound quote bs (if t then Some (form.Literal, prefix_len (λ b. not (b == quote)) bs + 2) else None)
 by_close quote bs false e spelled = tt
 by_close quote bs true e spelled =
     let p : ℕ → Bool = λ b. not (b == quote) in
@@ -133,7 +138,8 @@ joined f b bs n l front T = record {
 }
 
 -- numbers
-by_point : (front : List ℕ) (x : ℕ) (bs : List ℕ) (t : Bool) → (x == 46) ≡ t → 0 < length front → list_all is_ascii_digit front ≡ true → Tail (x ∷ bs) (if t then suc (prefix_len is_ascii_digit bs) else 0) (λ tail. Spells form.Number (front ++ tail))
+by_point : (front : List ℕ) (x : ℕ) (bs : List ℕ) (t : Bool) → (x == 46) ≡ t → 0 < length front → list_all is_ascii_digit front ≡ true
+    → Tail (x ∷ bs) (if t then suc (prefix_len is_ascii_digit bs) else 0) (λ tail. Spells form.Number (front ++ tail))
 by_point front x bs false e some all = nothing (x ∷ bs) (λ tail. Spells form.Number (front ++ tail)) (subst (Spells form.Number) (sym (append-nil front)) (digits front some all))
 by_point front x bs true e some all =
     let n = prefix_len is_ascii_digit bs in record {
@@ -173,7 +179,8 @@ sound_point [] = alone form.Closing 46 [] (closing 46 refl)
 sound_point (c ∷ bs) = by_digit c bs (is_ascii_digit c) refl
 
 -- names
-by_start : (front : List ℕ) (x c : ℕ) (cs : List ℕ) (t : Bool) → (x == 58) ≡ true → is_name_start c ≡ t → is_ncname front ≡ true → Tail (x ∷ c ∷ cs) (if t then suc (suc (prefix_len is_name_byte cs)) else 0) (λ tail. IsName (front ++ tail))
+by_start : (front : List ℕ) (x c : ℕ) (cs : List ℕ) (t : Bool) → (x == 58) ≡ true → is_name_start c ≡ t → is_ncname front ≡ true
+    → Tail (x ∷ c ∷ cs) (if t then suc (suc (prefix_len is_name_byte cs)) else 0) (λ tail. IsName (front ++ tail))
 by_start front x c cs false e s is = nothing (x ∷ c ∷ cs) (λ tail. IsName (front ++ tail)) (subst IsName (sym (append-nil front)) (one_ncname front is))
 by_start front x c cs true e s is =
     let n = prefix_len is_name_byte cs in record {
@@ -196,7 +203,8 @@ local front (x ∷ bs) is = by_colon front x bs (x == 58) refl is
 ncname_front : (b : ℕ) (bs : List ℕ) → is_name_start b ≡ true → is_ncname (b ∷ take (prefix_len is_name_byte bs) bs) ≡ true
 ncname_front b bs e = ap (λ t. t && list_all is_name_byte (take (prefix_len is_name_byte bs) bs)) e ∙ front_passes is_name_byte bs
 
-named : (f : Form) (bs : List ℕ) (l : ℕ) (make : List ℕ → List ℕ) → ((bytes : List ℕ) → IsName bytes → Spells f (make bytes)) → (front : List ℕ) → Tail bs l (λ tail. IsName (front ++ tail)) → Tail bs l (λ tail. Spells f (make (front ++ tail)))
+named : (f : Form) (bs : List ℕ) (l : ℕ) (make : List ℕ → List ℕ) → ((bytes : List ℕ) → IsName bytes → Spells f (make bytes)) → (front : List ℕ)
+    → Tail bs l (λ tail. IsName (front ++ tail)) → Tail bs l (λ tail. Spells f (make (front ++ tail)))
 named f bs l make spelled front T = record { word = T.word; rest = T.rest; is = T.is; len = T.len; holds = spelled (front ++ T.word) T.holds }
 
 no_star : (a : Bool) → (a && false) ≡ true → ⊥
@@ -212,7 +220,8 @@ star_behind (x ∷ []) e = absurd (no_star (x == 58) e)
 star_behind (x ∷ c ∷ more) e =
     (more, ap (λ x. x ∷ c ∷ more) (eqb-true x 58 (and_first (x == 58) (c == 42) e)) ∙ ap (λ c. 58 ∷ c ∷ more) (eqb-true c 42 (and_second (x == 58) (c == 42) e)))
 
-by_star : (b : ℕ) (bs : List ℕ) (t : Bool) → is_name_start b ≡ true → has_star (drop (prefix_len is_name_byte bs) bs) ≡ t → Sound b bs (if t then Some (form.InPrefix, prefix_len is_name_byte bs + 3) else Some (form.Name, suc (name_len bs)))
+by_star : (b : ℕ) (bs : List ℕ) (t : Bool) → is_name_start b ≡ true → has_star (drop (prefix_len is_name_byte bs) bs) ≡ t
+    → Sound b bs (if t then Some (form.InPrefix, prefix_len is_name_byte bs + 3) else Some (form.Name, suc (name_len bs)))
 by_star b bs false e s =
     let n = prefix_len is_name_byte bs in let rest = drop n bs in let front = b ∷ take n bs in
     joined form.Name b bs n (local_len rest) (sym (length-prefix_len is_name_byte bs))
@@ -255,10 +264,14 @@ sound_in class.Point b bs e = at b 46 (λ b. Sound b bs (cut_point bs)) e (sound
 sound_in class.Star b bs e = at b 42 (λ b. Front b bs 1 form.Star) e (alone form.Star 42 bs star)
 sound_in class.Dollar b bs e = at b 36 (λ b. Sound b bs (cut_variable bs)) e (sound_variable bs)
 sound_in class.Slash b bs e = at b 47 (λ b. Sound b bs (one_or_two form.Operator (begins (λ c. c == 47) bs))) e (sound_one_or_two form.Operator 47 47 bs (sign 47 refl) slashes)
-sound_in class.Angle b bs e = each (λ b. Sound b bs (one_or_two form.Operator (begins (λ c. c == 61) bs))) (codes "<>") b e (sound_one_or_two form.Operator 60 61 bs (sign 60 refl) (with_equal 60 refl), (sound_one_or_two form.Operator 62 61 bs (sign 62 refl) (with_equal 62 refl), tt))
+sound_in class.Angle b bs e = each (λ b. Sound b bs (one_or_two form.Operator (begins (λ c. c == 61) bs))) (codes "<>") b e
+    (sound_one_or_two form.Operator 60 61 bs (sign 60 refl) (with_equal 60 refl), (sound_one_or_two form.Operator 62 61 bs (sign 62 refl) (with_equal 62 refl), tt))
 sound_in class.Bang b bs e = at b 33 (λ b. Sound b bs (if begins (λ c. c == 61) bs then Some (form.Operator, 2) else None)) e (sound_two form.Operator 33 61 bs (with_equal 33 refl))
 sound_in class.Colon b bs e = at b 58 (λ b. Sound b bs (if begins (λ c. c == 58) bs then Some (form.Opening, 2) else None)) e (sound_two form.Opening 58 58 bs colons)
-sound_in class.Sign b bs e = each (λ b. Front b bs 1 form.Operator) (codes "|+-=") b e (alone form.Operator 124 bs (sign 124 refl), (alone form.Operator 43 bs (sign 43 refl), (alone form.Operator 45 bs (sign 45 refl), (alone form.Operator 61 bs (sign 61 refl), tt))))
+sound_in class.Sign b bs e = each (λ b. Front b bs 1 form.Operator) (codes "|+-=") b e (
+  alone form.Operator 124 bs (sign 124 refl),
+  (alone form.Operator 43 bs (sign 43 refl), (alone form.Operator 45 bs (sign 45 refl), (alone form.Operator 61 bs (sign 61 refl), tt))),
+)
 sound_in class.Opening b bs e = alone form.Opening b bs (opening b e)
 sound_in class.Closing b bs e = each (λ b. Front b bs 1 form.Closing) (codes ")]") b e (alone form.Closing 41 bs (closing 41 refl), (alone form.Closing 93 bs (closing 93 refl), tt))
 sound_in class.Other b bs e = tt

@@ -1,5 +1,6 @@
 -- One step of reading tokens.
-use Rattle.std.proofs.Common.{◌≡◌, refl, sym, ap, ◌∙◌, subst, ℕ, zero, suc, ◌<◌, ◌≤◌, ◌+◌, List, [], ◌∷◌, ◌++◌, append_assoc, append-nil, length, length-drop, take, drop, get_or, Option, Some, None, Bool, true, false, arith}
+use Rattle.std.proofs.Common.{◌≡◌, refl, sym, ap, ◌∙◌, subst, ℕ, zero, suc, ◌<◌, ◌≤◌, ◌+◌, List, [], ◌∷◌, ◌++◌, append_assoc, append-nil, length}
+use Rattle.std.proofs.Common.{length-drop, take, drop, get_or, Option, Some, None, Bool, true, false, arith}
 use Rattle.std.proofs.Math.Seq.{drop-nil}
 use Rattle.std.proofs.Math.ListN.{drop_of_length-le}
 use Rattle.std.proofs.lemmas.List.{at_drop_more}
@@ -48,15 +49,23 @@ space_more text out at operand R h e = record {
   stuck = λ p s. R.stuck p (subst (λ l. Stuck at operand l p) (sym (step text at h)) (past_space (get_or text at 0) e s));
 }
 
-pub token_more : (text : List ℕ) (out : List Token) (at n : ℕ) (operand : Bool) (f : Form) (k : TokenKind) → Rest text out at operand → IsLongest (drop at text) n f → kind_of operand f (take n (drop at text)) (drop n (drop at text)) ≡ Some k → Rest text (out ++ record { kind = k; at = at; len = n } ∷ []) (at + n) (ends_operand f k)
+pub token_more : (text : List ℕ) (out : List Token) (at n : ℕ) (operand : Bool) (f : Form) (k : TokenKind) → Rest text out at operand
+    → IsLongest (drop at text) n f → kind_of operand f (take n (drop at text)) (drop n (drop at text)) ≡ Some k
+    → Rest text (out ++ record { kind = k; at = at; len = n } ∷ []) (at + n) (ends_operand f k)
 token_more text out at n operand f k R L e =
     let d = drop_drop text at n (at + n) refl in record {
       within = omega (arith, R.within, L.within, length-drop at text);
-      read = λ ts t. subst (Tokens 0 false text) (sym (append_assoc out (record { kind = k; at = at; len = n } ∷ []) ts)) (R.read (record { kind = k; at = at; len = n } ∷ ts) (token n L e (subst (λ l. Tokens (at + n) (ends_operand f k) l ts) (sym d) t)));
+      read = λ ts t. subst (Tokens 0 false text) (sym (append_assoc out (record { kind = k; at = at; len = n } ∷ []) ts)) (R.read (record {
+        kind = k;
+        at =
+            at;
+        len = n;
+      } ∷ ts) (token n L e (subst (λ l. Tokens (at + n) (ends_operand f k) l ts) (sym d) t)));
       stuck = λ p s. R.stuck p (past_token n L e (subst (λ l. Stuck (at + n) (ends_operand f k) l p) (sym d) s));
     }
 
-pub stops : (text : List ℕ) (out : List Token) (at : ℕ) (operand : Bool) → Rest text out at operand → at < length text → is_space (get_or text at 0) ≡ false → NoToken operand (drop at text) → Stuck 0 false text at
+pub stops : (text : List ℕ) (out : List Token) (at : ℕ) (operand : Bool) → Rest text out at operand → at < length text
+    → is_space (get_or text at 0) ≡ false → NoToken operand (drop at text) → Stuck 0 false text at
 stops text out at operand R h e n = R.stuck at (subst (λ l. Stuck at operand l at) (sym (step text at h)) (here (get_or text at 0) e (subst (NoToken operand) (step text at h) n)))
 
 pub ends : (text : List ℕ) (out : List Token) (at : ℕ) (operand : Bool) → Rest text out at operand → length text ≤ at → Tokens 0 false text out

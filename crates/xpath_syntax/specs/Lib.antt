@@ -1,3 +1,4 @@
 pub mod Forms
 pub mod Scan
 pub mod Tokens
+pub mod Layers

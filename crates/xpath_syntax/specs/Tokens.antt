@@ -68,7 +68,9 @@ ends_operand f k = true
 pub data Tokens : ℕ → Bool → List ℕ → List Token → Type 0 where
   end : {at : ℕ} {operand : Bool} → Tokens at operand [] []
   space : {at : ℕ} {operand : Bool} {bs : List ℕ} {ts : List Token} (b : ℕ) → is_space b ≡ true → Tokens (at + 1) operand bs ts → Tokens at operand (b ∷ bs) ts
-  token : {at : ℕ} {operand : Bool} {bs : List ℕ} {ts : List Token} {f : Form} {k : TokenKind} (n : ℕ) → IsLongest bs n f → kind_of operand f (take n bs) (drop n bs) ≡ Some k → Tokens (at + n) (ends_operand f k) (drop n bs) ts → Tokens at operand bs (record { kind = k; at = at; len = n } ∷ ts)
+  token : {at : ℕ} {operand : Bool} {bs : List ℕ} {ts : List Token} {f : Form} {k : TokenKind} (n : ℕ) → IsLongest bs n f
+      → kind_of operand f (take n bs) (drop n bs) ≡ Some k → Tokens (at + n) (ends_operand f k) (drop n bs) ts
+      → Tokens at operand bs (record { kind = k; at = at; len = n } ∷ ts)
 
 -- no token begins here
 abbrev pub NoToken : Bool → List ℕ → Type 0
@@ -78,7 +80,8 @@ NoToken operand bs = (n : ℕ) (f : Form) → IsLongest bs n f → kind_of opera
 pub data Stuck : ℕ → Bool → List ℕ → ℕ → Type 0 where
   here : {at : ℕ} {operand : Bool} {bs : List ℕ} (b : ℕ) → is_space b ≡ false → NoToken operand (b ∷ bs) → Stuck at operand (b ∷ bs) at
   past_space : {at p : ℕ} {operand : Bool} {bs : List ℕ} (b : ℕ) → is_space b ≡ true → Stuck (at + 1) operand bs p → Stuck at operand (b ∷ bs) p
-  past_token : {at p : ℕ} {operand : Bool} {bs : List ℕ} {f : Form} {k : TokenKind} (n : ℕ) → IsLongest bs n f → kind_of operand f (take n bs) (drop n bs) ≡ Some k → Stuck (at + n) (ends_operand f k) (drop n bs) p → Stuck at operand bs p
+  past_token : {at p : ℕ} {operand : Bool} {bs : List ℕ} {f : Form} {k : TokenKind} (n : ℕ) → IsLongest bs n f
+      → kind_of operand f (take n bs) (drop n bs) ≡ Some k → Stuck (at + n) (ends_operand f k) (drop n bs) p → Stuck at operand bs p
 
 -- a text's tokens, and the least byte from which none can be read
 abbrev pub TokensOf : List ℕ → List Token → Type 0

@@ -5,11 +5,12 @@ ghost use Rattle.xpath_syntax.specs.declared.expression.Expr.{Expr, roll-Expr};
 ghost use Rattle.xpath_syntax.specs.declared.expression.Expr.TheFolds.{fold-Expr};
 ghost use Rattle.xpath_syntax.specs.declared.expression.Path.{Path, roll-Path};
 ghost use Rattle.xpath_syntax.specs.declared.expression.StepExpr.{StepExpr, roll-StepExpr};
+ghost use Rattle.xpath_syntax.specs.Layers.{of_layer};
 
 use lists::{Boxed, List};
 
 /// A name as it is written, and what it is bound to, which the parsers leave open.
-#[derive(Debug, Drop, PartialEq, Eq)]
+#[derive(Clone, Debug, Drop, PartialEq, Eq)]
 pub struct NameRef {
     /// Empty where the name has none.
     pub prefix: List<u8>,
@@ -58,7 +59,7 @@ pub enum AxisName {
 }
 
 /// The node test of a step (XPath 1.0, 2.3).
-#[derive(Debug, Drop, PartialEq, Eq)]
+#[derive(Clone, Debug, Drop, PartialEq, Eq)]
 pub enum TestExpr {
     /// `*`.
     AnyName,
@@ -77,8 +78,9 @@ pub enum TestExpr {
 
 /// An expression (XPath 1.0, 3). Only brackets, predicates, argument lists and unary minus nest by a limit; operators of
 /// one precedence group to the left without one, so a chain of them is a tree as deep as it is long.
+///
+/// Trees have no derived `==` and `Debug`, which would take as much stack as a chain is long.
 #[cycle(expression)]
-#[derive(Debug, PartialEq, Eq)]
 pub enum Expr {
     Binary {
         op: Op,
@@ -135,9 +137,63 @@ impl Drop for Expr {
     }
 }
 
+/// The outermost form of an expression, with the parts of an `Expr`. An `Expr` drops itself by a loop of its own, so its
+/// parts can be moved out of it only through this.
+#[derive(Drop)]
+pub enum Layer {
+    Binary {
+        op: Op,
+        left: Boxed<Expr>,
+        right: Boxed<Expr>,
+    },
+    /// The unary minus.
+    Minus(Boxed<Expr>),
+    Literal(List<u8>),
+    Number(i64),
+    Variable(NameRef),
+    /// The call of a function.
+    Call {
+        name: NameRef,
+        args: List<Expr>,
+    },
+    Path(Path),
+    /// A primary with predicates, which a relative path may follow.
+    Filter {
+        primary: Boxed<Expr>,
+        predicates: List<Expr>,
+        tail: Option<Path>,
+    },
+}
+
+impl Expr {
+    /// The outermost form, with the parts moved into it. Takes no memory.
+    pub fn into_layer(self) -> Layer
+        ensures { of_layer result ≡ self }
+    {
+        match self {
+            Expr::Binary { op, left, right } => Layer::Binary { op, left, right },
+            Expr::Minus(inner) => Layer::Minus(inner),
+            Expr::Literal(text) => Layer::Literal(text),
+            Expr::Number(whole) => Layer::Number(whole),
+            Expr::Variable(name) => Layer::Variable(name),
+            Expr::Call { name, args } => Layer::Call { name, args },
+            Expr::Path(path) => Layer::Path(path),
+            Expr::Filter {
+                primary,
+                predicates,
+                tail,
+            } => Layer::Filter {
+                primary,
+                predicates,
+                tail,
+            },
+        }
+    }
+}
+
 /// A location path (XPath 1.0, 2).
 #[cycle(expression)]
-#[derive(Debug, Drop, PartialEq, Eq)]
+#[derive(Drop)]
 pub struct Path {
     /// Whether it begins at the root.
     pub absolute: bool,
@@ -148,7 +204,7 @@ pub struct Path {
 
 /// A step of a path (XPath 1.0, 2.1).
 #[cycle(expression)]
-#[derive(Debug, Drop, PartialEq, Eq)]
+#[derive(Drop)]
 pub struct StepExpr {
     pub axis: AxisName,
     pub test: TestExpr,

@@ -9,11 +9,8 @@ mod scan;
 mod token;
 
 pub use expression::{
-    AxisName, Expr, NameRef, Op, Path, StepExpr, TestExpr, trees_are_made_of_layers,
+    AxisName, Expr, Layer, NameRef, Op, Path, StepExpr, TestExpr, trees_are_made_of_layers,
 };
-pub use lexer::{one_reading, tokens};
+pub use lexer::{a_reading, one_reading, tokens};
 pub use pattern::{Part, Pattern, PatternPath, PatternStart, PatternStep};
 pub use token::{LexError, Token, TokenKind};
-
-#[cfg(test)]
-mod tests;

@@ -4,20 +4,20 @@ use crate::expression::{Expr, NameRef, StepExpr};
 use lists::List;
 
 /// A pattern: several that `|` joins.
-#[derive(Debug, Drop, PartialEq, Eq)]
+#[derive(Drop)]
 pub struct Pattern {
     pub alternatives: List<PatternPath>,
 }
 
 /// One path of a pattern.
-#[derive(Debug, Drop, PartialEq, Eq)]
+#[derive(Drop)]
 pub struct PatternPath {
     pub start: PatternStart,
     pub parts: List<PatternStep>,
 }
 
 /// What a path of a pattern begins with.
-#[derive(Debug, Drop, PartialEq, Eq)]
+#[derive(Clone, Debug, Drop, PartialEq, Eq)]
 pub enum PatternStart {
     /// Its first step.
     Relative,
@@ -32,7 +32,7 @@ pub enum PatternStart {
 }
 
 /// A step of a pattern.
-#[derive(Debug, Drop, PartialEq, Eq)]
+#[derive(Drop)]
 pub struct PatternStep {
     /// Whether `//` stands before it.
     pub deep: bool,
@@ -40,7 +40,7 @@ pub struct PatternStep {
 }
 
 /// A part of an attribute value template.
-#[derive(Debug, Drop, PartialEq, Eq)]
+#[derive(Drop)]
 pub enum Part {
     /// Text, with `{{` and `}}` as one brace.
     Plain(List<u8>),

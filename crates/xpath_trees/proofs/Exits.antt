@@ -21,21 +21,25 @@ abbrev pub view : {T : Type 0} → T × Bor (List Word) → T × List words.Word
 view x = (x.0, seen x.1.now)
 
 -- what the callee returned is returned
-pub passed_on : {T : Type 0} (P : Read T → Type 0) (Q : Read T → Type 0) (r : Result (T × Bor (List Word)) ParseStop) → ((a : Read T) → P a → Q a) → Answered {X = T × Bor (List Word)} view P r → Answered {X = T × Bor (List Word)} view Q r
+pub passed_on : {T : Type 0} (P : Read T → Type 0) (Q : Read T → Type 0) (r : Result (T × Bor (List Word)) ParseStop) → ((a : Read T) → P a → Q a)
+    → Answered {X = T × Bor (List Word)} view P r → Answered {X = T × Bor (List Word)} view Q r
 passed_on {T} P Q r f h = answered {X = T × Bor (List Word)} {P = P} view Q r f h
 
 -- the callee's refusal is returned
-pub exits : {T U : Type 0} (P : Read T → Type 0) (Q : Read U → Type 0) {r : Result (U × Bor (List Word)) ParseStop} {y e : ParseStop} → r ≡ Err y → y ≡ e → ((x : Cause × List words.Word) → P (Err x) → Q (Err x)) → Answered {X = T × Bor (List Word)} view P (Err e) → Answered {X = U × Bor (List Word)} view Q r
+pub exits : {T U : Type 0} (P : Read T → Type 0) (Q : Read U → Type 0) {r : Result (U × Bor (List Word)) ParseStop} {y e : ParseStop} → r ≡ Err y → y ≡ e
+    → ((x : Cause × List words.Word) → P (Err x) → Q (Err x)) → Answered {X = T × Bor (List Word)} view P (Err e) → Answered {X = U × Bor (List Word)} view Q r
 exits {T} {U} P Q {r} {y} {e} is same f h =
     subst (λ r. Answered {X = U × Bor (List Word)} view Q r) (sym (is ∙ ap (λ y. Err y) same)) (failed {X = T × Bor (List Word)} {Y = U × Bor (List Word)} view P view Q e f h)
 
 -- the word that must come doesn't
-pub misses : {U : Type 0} (Q : Read U → Type 0) (ws : List words.Word) {r : Result (U × Bor (List Word)) ParseStop} {y e : ParseStop} → r ≡ Err y → y ≡ e → e ≡ stop.Refused cause.Syntax (length ws) → Q (Err (cause.Syntax, ws)) → Answered {X = U × Bor (List Word)} view Q r
+pub misses : {U : Type 0} (Q : Read U → Type 0) (ws : List words.Word) {r : Result (U × Bor (List Word)) ParseStop} {y e : ParseStop} → r ≡ Err y → y ≡ e
+    → e ≡ stop.Refused cause.Syntax (length ws) → Q (Err (cause.Syntax, ws)) → Answered {X = U × Bor (List Word)} view Q r
 misses {U} Q ws {r} {y} {e} is same told q =
     subst (λ r. Answered {X = U × Bor (List Word)} view Q r) (sym (is ∙ ap (λ y. Err y) same)) (missing {Y = U × Bor (List Word)} view Q ws e told q)
 
 -- another precedence that is the same
-pub same_level : (d : ℕ) (p q : Precedence) (ws : List words.Word) (r : Result (Expr × Bor (List Word)) ParseStop) → p ≡ q → Answered {X = Expr × Bor (List Word)} view (ReadsSo d (rule.level q) ws) r → Answered {X = Expr × Bor (List Word)} view (ReadsSo d (rule.level p) ws) r
+pub same_level : (d : ℕ) (p q : Precedence) (ws : List words.Word) (r : Result (Expr × Bor (List Word)) ParseStop) → p ≡ q
+    → Answered {X = Expr × Bor (List Word)} view (ReadsSo d (rule.level q) ws) r → Answered {X = Expr × Bor (List Word)} view (ReadsSo d (rule.level p) ws) r
 same_level d p q ws r e h = subst (λ p. Answered {X = Expr × Bor (List Word)} view (ReadsSo d (rule.level p) ws) r) (sym e) h
 
 -- a list to which more was added

@@ -16,14 +16,17 @@ use Rattle.xpath_words.specs.Seen.{Answered, ReadsSo, Whole, most_levels, seen}
 abbrev pub Exact : (v : Nonterminal) → List words.Word → Type 0
 Exact v ws = (a : Answer v) → ReadsSo most_levels v ws a → Outcome whole_numbers most_levels v ws (whole a)
 
-pub tree_of_all : (v : Nonterminal) (ws : List words.Word) (x : Tree v) (rest : List Word) → Exact v ws → length rest ≡ 0 → ReadsSo most_levels v ws (Ok (x, seen rest)) → IsTree whole_numbers most_levels v ws x
+pub tree_of_all : (v : Nonterminal) (ws : List words.Word) (x : Tree v) (rest : List Word) → Exact v ws → length rest ≡ 0
+    → ReadsSo most_levels v ws (Ok (x, seen rest)) → IsTree whole_numbers most_levels v ws x
 tree_of_all v ws x [] exact e r = exact (Ok (x, [])) r
 tree_of_all v ws x (w ∷ rest) exact e r = absurd (omega (arith, e))
 
-pub words_left : (v : Nonterminal) (ws : List words.Word) (x : Tree v) (rest : List Word) → Exact v ws → (length rest ≡ 0 → ⊥) → ReadsSo most_levels v ws (Ok (x, seen rest)) → Refused whole_numbers most_levels v ws cause.Syntax (seen rest)
+pub words_left : (v : Nonterminal) (ws : List words.Word) (x : Tree v) (rest : List Word) → Exact v ws → (length rest ≡ 0 → ⊥)
+    → ReadsSo most_levels v ws (Ok (x, seen rest)) → Refused whole_numbers most_levels v ws cause.Syntax (seen rest)
 words_left v ws x [] exact e r = absurd (e refl)
 words_left v ws x (w ∷ rest) exact e r = exact (Ok (x, seen (w ∷ rest))) r
 
-pub refused_whole : (v : Nonterminal) (ws : List words.Word) (e : ParseStop) → Exact v ws → Answered {X = Tree v × Bor (List Word)} (λ x. (x.0, seen x.1.now)) (ReadsSo most_levels v ws) (Err e) → Whole v ws (Err e)
+pub refused_whole : (v : Nonterminal) (ws : List words.Word) (e : ParseStop) → Exact v ws
+    → Answered {X = Tree v × Bor (List Word)} (λ x. (x.0, seen x.1.now)) (ReadsSo most_levels v ws) (Err e) → Whole v ws (Err e)
 refused_whole v ws stop.Memory exact h = tt
 refused_whole v ws (stop.Refused c n) exact h = (h.0, exact (Err (c, h.0)) h.1, h.2)

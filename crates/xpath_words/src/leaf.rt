@@ -7,7 +7,8 @@ ghost use Rattle.xpath_grammar.specs.Productions as rule;
 ghost use Rattle.xpath_grammar.specs.Reading.{Reads, Skips};
 ghost use Rattle.xpath_grammar.specs.Signs as signs;
 ghost use Rattle.xpath_grammar.specs.Words.{number_of, whole_numbers};
-ghost use Rattle.xpath_words.specs.Seen.{Answered, IsFlaw, IsOperator, IsOutside, NoOperator, Passes, ReadsSo, Slashed, Tested, Within, atom as atom_production, behind_instruction, behind_node_type, led, passes, seen, seen_word};
+ghost use Rattle.xpath_words.specs.Seen.{Answered, IsFlaw, IsOperator, IsOutside, NoOperator, Passes, ReadsSo, Slashed, Tested, Within};
+ghost use Rattle.xpath_words.specs.Seen.{atom as atom_production, behind_instruction, behind_node_type, led, passes, seen, seen_word};
 ghost use Rattle.xpath_words.specs.declared.stop.ParseStop.TheVariants as stop;
 ghost use Rattle.xpath_grammar.specs.declared.sign.Cause.TheVariants as cause;
 ghost use Rattle.xpath_syntax.specs.declared.expression.Expr.TheVariants as expr;
@@ -215,7 +216,8 @@ pub fn expect<'a>(
     words: &'a [Word<'a>],
     wanted: Lookahead,
 ) -> Result<(Word<'a>, &'a [Word<'a>]), ParseStop>
-    ensures { MatchResult result (λ r. Passes (passes wanted) (seen words.now) (seen_word r.0) (seen r.1.now)) (λ e. Skips (passes wanted) (seen words.now) × (e ≡ stop.Refused cause.Syntax (length (seen words.now)))) }
+    ensures { MatchResult result (λ r. Passes (passes wanted) (seen words.now) (seen_word r.0) (seen r.1.now)) (λ e.
+        Skips (passes wanted) (seen words.now) × (e ≡ stop.Refused cause.Syntax (length (seen words.now)))) }
 {
     match after(words, wanted) {
         Some(next) => Ok(next),

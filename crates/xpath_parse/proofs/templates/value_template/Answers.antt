@@ -35,7 +35,8 @@ loop-at-preserved c =
     let value = c.in_ok-value-in-Value.value in
     let spelled = subst (λ l. Spells (rule.level precedence.Or) (take n (drop (at + 1) l)) value) (sym c.as_bytes-bytes.ensures.value) c.in_ok-value-in-Value.ensures in
     let more = value_more text c.loop-at.parts c.loop-at.plain at n value c.loop-at.invariant here spelled in
-    let parts : c.push-in-Value.new.self ≡ (c.loop-at.parts ++ plain_part c.loop-at.plain) ++ part.Value value ∷ [] = c.in_ok-push-in-Value.ensures.ok ∙ ap (λ l. l ++ part.Value value ∷ []) c.in_ok-push_plain-in-Value.ensures.0 in
+    let parts : c.push-in-Value.new.self ≡ (c.loop-at.parts ++ plain_part c.loop-at.plain) ++ part.Value value ∷ [] =
+    c.in_ok-push-in-Value.ensures.ok ∙ ap (λ l. l ++ part.Value value ∷ []) c.in_ok-push_plain-in-Value.ensures.0 in
     subst₂ (λ l k. Rest text l k (at + (n + 2))) (sym parts) (sym c.in_ok-push_plain-in-Value.ensures.1) more
 
 pub overflow_add-result : goal.overflow_add-result

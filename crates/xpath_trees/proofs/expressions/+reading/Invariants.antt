@@ -75,7 +75,8 @@ abbrev pub decreases-predicates-loop-next : goal.decreases-predicates-loop-next
 decreases-predicates-loop-next l = length l.rest
 
 abbrev pub invariant-steps-loop-deeper : goal.invariant-steps-loop-deeper
-invariant-steps-loop-deeper l = (a : Read (List StepExpr)) → ReadsSo l.depth rule.more_steps (seen l.rest) a → Reads whole_numbers l.depth rule.more_steps (led_steps l.fn.deep) (seen l.fn.words) (add l.parts a)
+invariant-steps-loop-deeper l = (a : Read (List StepExpr)) → ReadsSo l.depth rule.more_steps (seen l.rest) a
+    → Reads whole_numbers l.depth rule.more_steps (led_steps l.fn.deep) (seen l.fn.words) (add l.parts a)
 
 abbrev pub decreases-steps-loop-deeper : goal.decreases-steps-loop-deeper
 decreases-steps-loop-deeper l = length l.rest

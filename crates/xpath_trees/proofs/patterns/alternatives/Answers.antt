@@ -32,7 +32,8 @@ loop-next-smaller c = shorter c.loop-next.rest.now c.in-Some.next.now c.in_ok-on
 
 pub loop-next-preserved : goal.loop-next-preserved
 loop-next-preserved c = λ a h.
-    c.loop-next.invariant a (paths_go most_levels (seen c.loop-next.rest.now) (seen c.in-Some.next.now) (seen c.in_ok-one-2.behind.now) (seen_word c.in-Some.field-0-0) c.loop-next.paths c.in_ok-one-2.one c.in-Some.ensures c.in_ok-one-2.ensures a
+    c.loop-next.invariant a (paths_go most_levels (seen c.loop-next.rest.now) (seen c.in-Some.next.now) (seen c.in_ok-one-2.behind.now)
+    (seen_word c.in-Some.field-0-0) c.loop-next.paths c.in_ok-one-2.one c.in-Some.ensures c.in_ok-one-2.ensures a
     (subst (λ paths. Added paths (ReadsSo most_levels rule.more_patterns (seen c.in_ok-one-2.behind.now)) a) c.in_ok-push-2.ensures.ok h))
 
 pub returns : goal.returns

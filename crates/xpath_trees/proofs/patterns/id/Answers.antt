@@ -32,10 +32,14 @@ returns-in_err-rest-2 c =
 pub returns-in_err-parts : goal.returns-in_err-parts
 returns-in_err-parts c =
     let p = err_from_is_err_and c.from_residual-in_err-parts.result c.from_residual-in_err-parts.ensures.1 in
-    rw (p.1, p.2) (failed viewed (Added c.new.result (ReadsSo most_levels rule.more_pattern_steps (seen c.in_ok-rest-2.rest.now))) viewed (Reads whole_numbers most_levels rule.pattern_path behind_id (seen c.args.rest.now)) c.in_err-parts.field-0.0
+    rw (p.1, p.2) (failed viewed (Added c.new.result (ReadsSo most_levels rule.more_pattern_steps (seen c.in_ok-rest-2.rest.now))) viewed
+    (Reads whole_numbers most_levels rule.pattern_path behind_id (seen c.args.rest.now)) c.in_err-parts.field-0.0
     (λ r h. took c.in_ok-rest.ensures (took c.in_ok-value.ensures (took c.in_ok-rest-2.ensures (read_part_fails h)))) c.in_err-parts.ensures)
 
 pub returns : goal.returns
 returns c =
-    subst (λ value. Reads whole_numbers most_levels rule.pattern_path behind_id (seen c.args.rest.now) (Ok (pattern_path_of (start.Id value) c.in_ok-parts.parts, seen c.in_ok-parts.rest.now))) (sym c.in_ok-literal.ensures)
-    (took c.in_ok-rest.ensures (took c.in_ok-value.ensures (took c.in_ok-rest-2.ensures (read_parts (all_added (ReadsSo most_levels rule.more_pattern_steps (seen c.in_ok-rest-2.rest.now)) c.new.result c.in_ok-parts.parts (seen c.in_ok-parts.rest.now) c.new.ensures c.in_ok-parts.ensures) read_nothing))))
+    subst (λ value. Reads whole_numbers most_levels rule.pattern_path behind_id (seen c.args.rest.now)
+    (Ok (pattern_path_of (start.Id value) c.in_ok-parts.parts, seen c.in_ok-parts.rest.now))) (sym c.in_ok-literal.ensures)
+    (took c.in_ok-rest.ensures (took c.in_ok-value.ensures
+    (took c.in_ok-rest-2.ensures (read_parts (all_added (ReadsSo most_levels rule.more_pattern_steps (seen c.in_ok-rest-2.rest.now)) c.new.result
+    c.in_ok-parts.parts (seen c.in_ok-parts.rest.now) c.new.ensures c.in_ok-parts.ensures) read_nothing))))

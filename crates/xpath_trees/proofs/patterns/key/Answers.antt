@@ -20,13 +20,15 @@ returns-in_err-rest c =
 pub returns-in_err-key_name : goal.returns-in_err-key_name
 returns-in_err-key_name c =
     let p = err_from_is_err_and c.from_residual-in_err-key_name.result c.from_residual-in_err-key_name.ensures.1 in
-    rw (p.1, p.2) (missing viewed (Reads whole_numbers most_levels rule.pattern_path behind_key (seen c.args.rest.now)) (seen c.in_ok-rest.rest.now) c.in_err-key_name.field-0.0 c.in_err-key_name.ensures.1
+    rw (p.1, p.2) (missing viewed (Reads whole_numbers most_levels rule.pattern_path behind_key (seen c.args.rest.now)) (seen c.in_ok-rest.rest.now)
+    c.in_err-key_name.field-0.0 c.in_err-key_name.ensures.1
     (took c.in_ok-rest.ensures (read_wrong c.in_err-key_name.ensures.0)))
 
 pub returns-in_err-rest-2 : goal.returns-in_err-rest-2
 returns-in_err-rest-2 c =
     let p = err_from_is_err_and c.from_residual-in_err-rest-2.result c.from_residual-in_err-rest-2.ensures.1 in
-    rw (p.1, p.2) (missing viewed (Reads whole_numbers most_levels rule.pattern_path behind_key (seen c.args.rest.now)) (seen c.in_ok-key_name.rest.now) c.in_err-rest-2.field-0.0 c.in_err-rest-2.ensures.1
+    rw (p.1, p.2) (missing viewed (Reads whole_numbers most_levels rule.pattern_path behind_key (seen c.args.rest.now)) (seen c.in_ok-key_name.rest.now)
+    c.in_err-rest-2.field-0.0 c.in_err-rest-2.ensures.1
     (took c.in_ok-rest.ensures (took c.in_ok-key_name.ensures (read_wrong c.in_err-rest-2.ensures.0))))
 
 pub returns-in_err-value : goal.returns-in_err-value
@@ -38,17 +40,27 @@ returns-in_err-value c =
 pub returns-in_err-rest-3 : goal.returns-in_err-rest-3
 returns-in_err-rest-3 c =
     let p = err_from_is_err_and c.from_residual-in_err-rest-3.result c.from_residual-in_err-rest-3.ensures.1 in
-    rw (p.1, p.2) (missing viewed (Reads whole_numbers most_levels rule.pattern_path behind_key (seen c.args.rest.now)) (seen c.in_ok-value.rest.now) c.in_err-rest-3.field-0.0 c.in_err-rest-3.ensures.1
+    rw (p.1, p.2) (missing viewed (Reads whole_numbers most_levels rule.pattern_path behind_key (seen c.args.rest.now)) (seen c.in_ok-value.rest.now)
+    c.in_err-rest-3.field-0.0 c.in_err-rest-3.ensures.1
     (took c.in_ok-rest.ensures (took c.in_ok-key_name.ensures (took c.in_ok-rest-2.ensures (took c.in_ok-value.ensures (read_wrong c.in_err-rest-3.ensures.0))))))
 
 pub returns-in_err-parts : goal.returns-in_err-parts
 returns-in_err-parts c =
     let p = err_from_is_err_and c.from_residual-in_err-parts.result c.from_residual-in_err-parts.ensures.1 in
-    rw (p.1, p.2) (failed viewed (Added c.new.result (ReadsSo most_levels rule.more_pattern_steps (seen c.in_ok-rest-3.rest.now))) viewed (Reads whole_numbers most_levels rule.pattern_path behind_key (seen c.args.rest.now)) c.in_err-parts.field-0.0
-    (λ r h. took c.in_ok-rest.ensures (took c.in_ok-key_name.ensures (took c.in_ok-rest-2.ensures (took c.in_ok-value.ensures (took c.in_ok-rest-3.ensures (read_part_fails h)))))) c.in_err-parts.ensures)
+    rw (p.1, p.2) (failed viewed (Added c.new.result (ReadsSo most_levels rule.more_pattern_steps (seen c.in_ok-rest-3.rest.now))) viewed
+    (Reads whole_numbers most_levels rule.pattern_path behind_key (seen c.args.rest.now)) c.in_err-parts.field-0.0
+    (λ r h. took c.in_ok-rest.ensures (took c.in_ok-key_name.ensures
+    (took c.in_ok-rest-2.ensures (took c.in_ok-value.ensures (took c.in_ok-rest-3.ensures (read_part_fails h)))))) c.in_err-parts.ensures)
 
 pub returns : goal.returns
 returns c =
-    subst (λ name. Reads whole_numbers most_levels rule.pattern_path behind_key (seen c.args.rest.now) (Ok (pattern_path_of (start.Key name c.in_ok-literal.field-0) c.in_ok-parts.parts, seen c.in_ok-parts.rest.now))) (sym (c.in_ok-name.ensures ∙ ap name_of c.quoted.ensures))
-    (subst (λ value. Reads whole_numbers most_levels rule.pattern_path behind_key (seen c.args.rest.now) (Ok (pattern_path_of (start.Key (name_of (literal_of c.in_ok-key_name.key_name.text.now)) value) c.in_ok-parts.parts, seen c.in_ok-parts.rest.now))) (sym c.in_ok-literal.ensures)
-    (took c.in_ok-rest.ensures (took c.in_ok-key_name.ensures (took c.in_ok-rest-2.ensures (took c.in_ok-value.ensures (took c.in_ok-rest-3.ensures (read_parts (all_added (ReadsSo most_levels rule.more_pattern_steps (seen c.in_ok-rest-3.rest.now)) c.new.result c.in_ok-parts.parts (seen c.in_ok-parts.rest.now) c.new.ensures c.in_ok-parts.ensures) read_nothing)))))))
+    subst (λ name. Reads whole_numbers most_levels rule.pattern_path behind_key (seen c.args.rest.now)
+    (Ok (pattern_path_of (start.Key name c.in_ok-literal.field-0) c.in_ok-parts.parts, seen c.in_ok-parts.rest.now))) (sym (c.in_ok-name.ensures
+    ∙ ap name_of c.quoted.ensures))
+    (subst (λ value. Reads whole_numbers most_levels rule.pattern_path behind_key (seen c.args.rest.now)
+    (Ok (pattern_path_of (start.Key (name_of (literal_of c.in_ok-key_name.key_name.text.now)) value) c.in_ok-parts.parts, seen c.in_ok-parts.rest.now)))
+    (sym c.in_ok-literal.ensures)
+    (took c.in_ok-rest.ensures (took c.in_ok-key_name.ensures
+    (took c.in_ok-rest-2.ensures (took c.in_ok-value.ensures
+    (took c.in_ok-rest-3.ensures (read_parts (all_added (ReadsSo most_levels rule.more_pattern_steps (seen c.in_ok-rest-3.rest.now)) c.new.result
+    c.in_ok-parts.parts (seen c.in_ok-parts.rest.now) c.new.ensures c.in_ok-parts.ensures) read_nothing)))))))

@@ -15,7 +15,8 @@ loop-deep-init c = λ a h.
 pub returns-in_err-part : goal.returns-in_err-part
 returns-in_err-part c =
     let p = err_from_is_err_and c.from_residual.result c.from_residual.ensures.1 in
-    rw (p.1, p.2) (failed viewed (ReadsSo most_levels rule.pattern_step (seen c.in-Some.next.now)) viewed (Added c.args.before (ReadsSo most_levels rule.more_pattern_steps (seen c.args.words.now))) c.in_err-part.field-0.0
+    rw (p.1, p.2) (failed viewed (ReadsSo most_levels rule.pattern_step (seen c.in-Some.next.now)) viewed
+    (Added c.args.before (ReadsSo most_levels rule.more_pattern_steps (seen c.args.words.now))) c.in_err-part.field-0.0
     (λ r h. c.loop-deep.invariant (Err r) (steps_fail c.in-Some.deep c.in-Some.ensures h)) c.in_err-part.ensures)
 
 pub loop-deep-smaller : goal.loop-deep-smaller
@@ -23,7 +24,8 @@ loop-deep-smaller c = fewer_words c.in-Some.deep c.loop-deep.rest.now c.in-Some.
 
 pub loop-deep-preserved : goal.loop-deep-preserved
 loop-deep-preserved c = λ a h.
-    c.loop-deep.invariant a (steps_go most_levels c.in-Some.deep (seen c.loop-deep.rest.now) (seen c.in-Some.next.now) (seen c.in_ok-part.behind.now) c.loop-deep.parts c.in_ok-part.part c.in-Some.ensures c.in_ok-part.ensures a
+    c.loop-deep.invariant a (steps_go most_levels c.in-Some.deep (seen c.loop-deep.rest.now) (seen c.in-Some.next.now) (seen c.in_ok-part.behind.now)
+    c.loop-deep.parts c.in_ok-part.part c.in-Some.ensures c.in_ok-part.ensures a
     (subst (λ parts. Added parts (ReadsSo most_levels rule.more_pattern_steps (seen c.in_ok-part.behind.now)) a) c.in_ok-push.ensures.ok h))
 
 pub returns : goal.returns

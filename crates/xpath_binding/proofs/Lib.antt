@@ -1,0 +1,4 @@
+mod Last
+mod Equations
+mod Links
+mod Edits

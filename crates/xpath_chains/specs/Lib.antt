@@ -1,0 +1,3 @@
+pub mod Chains
+pub mod Mentions
+pub mod Copies
