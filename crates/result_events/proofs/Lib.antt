@@ -1,0 +1,4 @@
+pub mod Indexing
+pub mod Placing
+pub mod Standing
+pub mod Tidied

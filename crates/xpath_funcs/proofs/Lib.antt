@@ -1,0 +1,5 @@
+pub mod Cutting
+pub mod Finding
+pub mod Partners
+pub mod Numbered
+pub mod Words

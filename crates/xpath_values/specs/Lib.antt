@@ -1,0 +1,4 @@
+pub mod Comparisons
+pub mod Conversions
+pub mod Fragments
+pub mod Values
