@@ -1,5 +1,3 @@
-pub mod TurnLemmas
-pub mod PlayLemmas
-pub mod PairLemmas
-pub mod JudgedLemmas
-pub mod TopLemmas
+mod JudgedLemmas
+mod StatusLemmas
+mod TellLemmas

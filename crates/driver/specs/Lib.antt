@@ -1,4 +1,2 @@
-pub mod Turns
-pub mod Progress
+pub mod Judged
 pub mod Top
-pub mod Playing

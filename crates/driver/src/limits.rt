@@ -1,5 +1,5 @@
 ghost use Rattle.std.specs.Prelude.{◌≡◌};
-ghost use Rattle.driver.specs.Top as top;
+ghost use Rattle.driver.specs.Judged as judged;
 
 use doc_model::Limits;
 
@@ -12,7 +12,7 @@ pub const LIMITS: Limits = Limits {
 
 /// `LIMITS`, with its values.
 pub fn default_limits() -> Limits
-    ensures { result ≡ top.default_limits }
+    ensures { result ≡ judged.default_limits }
 {
     LIMITS
 }

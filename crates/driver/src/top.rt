@@ -1,128 +1,92 @@
 // The top call.
-ghost use Rattle.std.specs.Prelude.{◌≡◌, ◌≢◌, ◌⊎◌, ◌≤◌, ◌∷◌, [], ◌++◌, ℕ, List, None, IfSome, OnOk, OnErr, map, string_bytes};
-ghost use Rattle.std.specs.List.{list_any};
-ghost use Rattle.std.specs.Io.KnownBytes.{IsAtEnd};
-ghost use Rattle.edge.specs.Causes.{Rose};
-ghost use Rattle.edge.specs.Outside.{Grows, Stays};
+ghost use Rattle.std.specs.Prelude.{◌≡◌, ℕ, List, Option, Some, None, map, string_bytes};
+ghost use Rattle.cmd_words.specs.Turns.{IsWithinLimits};
 ghost use Rattle.cmd_words.specs.Words.{plan_of};
-ghost use Rattle.driver.specs.declared.transform.Stop.TheVariants.{Flawed};
-ghost use Rattle.driver.specs.Top as top;
-ghost use Rattle.driver.specs.Top.{Answer, answer_of, made_answer, put_of, puts_of, fault_text, read_failed_answer, memory_answer, Delivers, PutsFront, PutFailed, ConsoleFailed, IsDue, GrowsByFront, StopsWithoutFlaw};
+ghost use Rattle.delivery.specs.Delivery.{IsDelivered};
+ghost use Rattle.driver.specs.Judged as judged;
+ghost use Rattle.driver.specs.Top.{Answers};
 
-use crate::transform::{Made, Stop, transform};
-use cmd_words::{Pair, PlanError, USAGE, plan};
-use edge::{Drawer, Failed, Listener, Shelf, Sink, Source, Status};
-use sessions::Outcome;
+use crate::limits::LIMITS;
+use crate::transform::{Stop, transform};
+use cmd_words::{Plan, PlanError, USAGE, plan};
+use delivery::{deliver, tell};
+use edge::{Drawer, Listener, Shelf, Sink, Source, Status};
 use std::alloc::Global;
 
 const READ_FAILED: &str = "read failed\n";
 
-const WRITE_FAILED: &str = "write failed\n";
-
 const MEMORY: &str = "out of memory\n";
 
-// Writes a text to the console, and answers the status, or 6 where the write fails.
-fn say<C: Sink>(console: &mut C, text: &str, code: u8) -> Status
-    requires { code ≢ 6 }
-    ensures said { result.code ≡ code → Grows (C.written console.old) (C.written console.new) text.now }
-    ensures failed { result.code ≡ 6 → Rose (C.faults console.old) (C.faults console.new) × GrowsByFront (C.written console.old) (C.written console.new) text.now }
-    ensures code { (result.code ≡ code) ⊎ (result.code ≡ 6) }
+/// Answers words that are no plan: the usage line, and status 2. For a word that isn't UTF-8, which `pace`
+/// can't be given.
+pub fn refuse_words<C: Sink>(console: &mut C) -> Status
+    ensures { (puts : Option (List (List ℕ × List ℕ))) (heard : List (Option (List (ℕ × List ℕ)))) (drawer : ℕ) →
+        IsDelivered judged.usage_answer result.code
+        (record { puts = puts; written = C.written console.old; heard = heard; drawer = drawer; console = C.faults console.old })
+        (record { puts = puts; written = C.written console.new; heard = heard; drawer = drawer; console = C.faults console.new }) }
 {
-    match console.write(text.as_bytes()) {
-        Ok(()) => Status { code },
-        Err(_) => Status { code: 6 },
-    }
+    tell(console, USAGE, 2)
 }
 
-// Ends a call whose source gave no document.
-fn refuse<C: Sink>(console: &mut C, stop: Stop) -> Status
-    ensures flawed { result.code ≡ 4 → (said : _) × (stop ≡ Flawed said) × Grows (C.written console.old) (C.written console.new) (string_bytes said) }
-    ensures read_failed { result.code ≡ 5 → (stop ≡ Stop.Failed) × Grows (C.written console.old) (C.written console.new) read_failed_answer.console }
-    ensures memory { result.code ≡ 7 → Grows (C.written console.old) (C.written console.new) memory_answer.console }
-    ensures write_failed { result.code ≡ 6 → Rose (C.faults console.old) (C.faults console.new) × (
-        ((said : _) × (stop ≡ Flawed said) × GrowsByFront (C.written console.old) (C.written console.new) (string_bytes said))
-        ⊎ ((stop ≡ Stop.Failed) × GrowsByFront (C.written console.old) (C.written console.new) read_failed_answer.console)
-        ⊎ GrowsByFront (C.written console.old) (C.written console.new) memory_answer.console) }
-    ensures code { (result.code ≡ 4) ⊎ (result.code ≡ 5) ⊎ (result.code ≡ 6) ⊎ (result.code ≡ 7) }
+/// Answers want of memory: status 7. Also for want of memory while the words are read.
+pub fn starve<C: Sink>(console: &mut C) -> Status
+    ensures { (puts : Option (List (List ℕ × List ℕ))) (heard : List (Option (List (ℕ × List ℕ)))) (drawer : ℕ) →
+        IsDelivered judged.memory_answer result.code
+        (record { puts = puts; written = C.written console.old; heard = heard; drawer = drawer; console = C.faults console.old })
+        (record { puts = puts; written = C.written console.new; heard = heard; drawer = drawer; console = C.faults console.new }) }
 {
-    match stop {
-        Stop::Flawed(said) => say(console, said.as_str(), 4),
-        Stop::Failed => say(console, READ_FAILED, 5),
-        Stop::Memory => say(console, MEMORY, 7),
-    }
+    tell(console, MEMORY, 7)
 }
 
-// Puts the bytes of a transformation that has no fault.
-fn put_one<O: Drawer>(drawer: &mut O, pair: &Pair, outcome: &Outcome) -> Result<(), Failed>
-    ensures put { OnOk result (Grows (O.puts drawer.old) (O.puts drawer.new) (put_of pair.now outcome.now)) }
-    ensures failed { OnErr result ((put_of pair.now outcome.now ≡ (pair.now.out, outcome.now.bytes) ∷ []) × Stays (O.puts drawer.old) (O.puts drawer.new)) }
-    ensures rose { OnErr result (Rose (O.faults drawer.old) (O.faults drawer.new)) }
-    ensures later { O.faults drawer.old ≤ O.faults drawer.new }
-{
-    match outcome.fault {
-        Some(_) => Ok(()),
-        None => drawer.put(pair.out.as_str(), outcome.bytes.as_slice()),
-    }
-}
-
-// Puts the bytes of each transformation that has no fault, in order, up to the first put that fails.
-fn put_all<O: Drawer>(drawer: &mut O, pairs: &[Pair], outcomes: &[Outcome]) -> Result<(), Failed>
-    ensures all { OnOk result (Grows (O.puts drawer.old) (O.puts drawer.new) (puts_of pairs.now outcomes.now)) }
-    ensures front { OnErr result (PutsFront (puts_of pairs.now outcomes.now) (O.puts drawer.old) (O.puts drawer.new)) }
-    ensures rose { OnErr result (Rose (O.faults drawer.old) (O.faults drawer.new)) }
-{
-    for (pair, outcome) in pairs.iter().zip(outcomes) {
-        put_one(drawer, pair, outcome)?;
-    }
-    Ok(())
-}
-
-fn has_fault(outcome: &Outcome) -> bool
-    ensures { result ≡ top.has_fault outcome.now }
-{
-    outcome.fault.is_some()
-}
-
-fn any_fault(outcomes: &[Outcome]) -> bool
-    ensures { result ≡ list_any top.has_fault outcomes.now }
-{
-    outcomes.iter().any(|outcome| has_fault(outcome))
-}
-
-// 1 where some transformation has a fault, else 0.
-fn code_of(outcomes: &[Outcome]) -> u8
-    ensures code { result ≡ top.code_of outcomes.now }
-    ensures few { (result ≡ 0) ⊎ (result ≡ 1) }
-{
-    if any_fault(outcomes) { 1 } else { 0 }
-}
-
-// Puts and tells what was made.
-fn deliver<O: Drawer, C: Sink>(
+// Carries out a plan.
+fn carry_out<S: Source, O: Drawer, C: Sink>(
+    alloc: Global,
+    plan: &Plan,
+    source: &mut S,
     drawer: &mut O,
     console: &mut C,
-    pairs: &[Pair],
-    made: &Made,
 ) -> Status
-    ensures done { (progress : List ℕ) → string_bytes made.now.said ≡ progress ++ fault_text pairs.now made.now.outcomes → result.code ≢ 6 →
-        Delivers (made_answer pairs.now made.now.outcomes progress) result.code (O.puts drawer.old) (O.puts drawer.new) (C.written console.old) (C.written console.new) }
-    ensures failed { (progress : List ℕ) → string_bytes made.now.said ≡ progress ++ fault_text pairs.now made.now.outcomes → result.code ≡ 6 →
-        PutFailed (made_answer pairs.now made.now.outcomes progress) (O.faults drawer.old) (O.faults drawer.new) (C.faults console.old) (C.faults console.new)
-        (O.puts drawer.old) (O.puts drawer.new) (C.written console.old) (C.written console.new)
-        ⊎ ConsoleFailed (made_answer pairs.now made.now.outcomes progress) (C.faults console.old) (C.faults console.new)
-        (O.puts drawer.old) (O.puts drawer.new) (C.written console.old) (C.written console.new) }
-    ensures code { (result.code ≡ 0) ⊎ (result.code ≡ 1) ⊎ (result.code ≡ 6) }
+    requires { IsWithinLimits plan.now }
+    ensures { (words : List (List ℕ)) (pairs : Option (List (List ℕ × List ℕ))) (shelf : ℕ) (heard : List (Option (List (ℕ × List ℕ)))) → plan_of words ≡ Some plan.now →
+        Answers judged.default_limits words result.code
+        (record {
+          left = S.left source.old;
+          pairs = pairs;
+          source = S.faults source.old;
+          shelf = shelf;
+          out = record {
+            puts = O.puts drawer.old;
+            written = C.written console.old;
+            heard = heard;
+            drawer = O.faults drawer.old;
+            console = C.faults console.old;
+          };
+        })
+        (record {
+          left = S.left source.new;
+          pairs = pairs;
+          source = S.faults source.new;
+          shelf = shelf;
+          out = record {
+            puts = O.puts drawer.new;
+            written = C.written console.new;
+            heard = heard;
+            drawer = O.faults drawer.new;
+            console = C.faults console.new;
+          };
+        }) }
 {
-    match put_all(drawer, pairs, made.outcomes.as_slice()) {
-        Ok(()) => say(
+    match transform(alloc, plan, LIMITS, source) {
+        Ok(made) => deliver(
+            drawer,
             console,
+            plan.pairs.as_slice(),
+            made.outcomes.as_slice(),
             made.said.as_str(),
-            code_of(made.outcomes.as_slice()),
         ),
-        Err(_) => {
-            let _ = console.write(WRITE_FAILED.as_bytes());
-            Status { code: 6 }
-        }
+        Err(Stop::Flawed(said)) => tell(console, said.as_str(), 4),
+        Err(Stop::Failed) => tell(console, READ_FAILED, 5),
+        Err(Stop::Memory) => starve(console),
     }
 }
 
@@ -142,7 +106,8 @@ fn deliver<O: Drawer, C: Sink>(
 /// | 7 | want of memory |
 ///
 /// Costs the bytes of the source, the turns, and for each pair the rows and the text; the source is read
-/// once, in order. It waits for nobody and always returns.
+/// once, in order, and a line only where a feed asks for it: nothing is read after a flaw. It waits for
+/// nobody and always returns.
 pub fn pace<S: Source, F: Shelf, O: Drawer, C: Sink>(
     alloc: Global,
     words: &[String],
@@ -152,27 +117,37 @@ pub fn pace<S: Source, F: Shelf, O: Drawer, C: Sink>(
     console: &mut C,
     listeners: &mut Vec<Box<dyn Listener>>,
 ) -> Status
-    // Where no fault is answered, the answer is that of the words and of the source's bytes, however they were cut.
-    ensures answer { IfSome (S.left source.old) (λ bytes. result.code ≢ 5 → result.code ≢ 6 → result.code ≢ 7 →
-        Delivers (answer_of (map string_bytes words.now) bytes) result.code
-        (O.puts drawer.old) (O.puts drawer.new) (C.written console.old) (C.written console.new)) }
-    ensures read_whole { (result.code ≡ 0) ⊎ (result.code ≡ 1) → IsAtEnd (S.left source.new) }
+    // Whatever the status is: an answer was due, and the call delivered it or failed to.
+    ensures answers { Answers judged.default_limits (map string_bytes words.now) result.code
+        (record {
+          left = S.left source.old;
+          pairs = F.pairs shelf.old;
+          source = S.faults source.old;
+          shelf = F.faults shelf.old;
+          out = record {
+            puts = O.puts drawer.old;
+            written = C.written console.old;
+            heard = map (λ listener. heard listener) listeners.old.items;
+            drawer = O.faults drawer.old;
+            console = C.faults console.old;
+          };
+        })
+        (record {
+          left = S.left source.new;
+          pairs = F.pairs shelf.new;
+          source = S.faults source.new;
+          shelf = F.faults shelf.new;
+          out = record {
+            puts = O.puts drawer.new;
+            written = C.written console.new;
+            heard = map (λ listener. heard listener) listeners.new.items;
+            drawer = O.faults drawer.new;
+            console = C.faults console.new;
+          };
+        }) }
 
     // The words are judged first, whatever the source is, and then it isn't read.
-    ensures no_plan { result.code ≡ 2 → plan_of (map string_bytes words.now) ≡ None }
-    ensures judged_first { plan_of (map string_bytes words.now) ≡ None → ((result.code ≡ 2) ⊎ (result.code ≡ 6)) × (source.new ≡ source.old) }
-
-    // Each fault has its cause.
-    ensures read_failed { result.code ≡ 5 → Rose (S.faults source.old) (S.faults source.new)
-        × StopsWithoutFlaw (S.left source.old) (S.left source.new)
-        × Delivers read_failed_answer result.code (O.puts drawer.old) (O.puts drawer.new) (C.written console.old) (C.written console.new) }
-    ensures memory { result.code ≡ 7 →
-        Delivers memory_answer result.code (O.puts drawer.old) (O.puts drawer.new) (C.written console.old) (C.written console.new) }
-    ensures write_failed { result.code ≡ 6 → (due : Answer) × IsDue (map string_bytes words.now) (S.left source.old) (S.faults source.old) (S.faults source.new) due × (
-        PutFailed due (O.faults drawer.old) (O.faults drawer.new) (C.faults console.old) (C.faults console.new)
-        (O.puts drawer.old) (O.puts drawer.new) (C.written console.old) (C.written console.new)
-        ⊎ ConsoleFailed due (C.faults console.old) (C.faults console.new)
-        (O.puts drawer.old) (O.puts drawer.new) (C.written console.old) (C.written console.new)) }
+    ensures judged_first { plan_of (map string_bytes words.now) ≡ None → source.new ≡ source.old }
 
     // Nothing else is touched.
     ensures shelf { shelf.new ≡ shelf.old }
@@ -180,13 +155,9 @@ pub fn pace<S: Source, F: Shelf, O: Drawer, C: Sink>(
 {
     let _ = shelf;
     let _ = listeners;
-    let plan = match plan(alloc, words) {
-        Ok(plan) => plan,
-        Err(PlanError::NoPlan) => return say(console, USAGE, 2),
-        Err(PlanError::Memory) => return say(console, MEMORY, 7),
-    };
-    match transform(alloc, &plan, source) {
-        Ok(made) => deliver(drawer, console, plan.pairs.as_slice(), &made),
-        Err(stop) => refuse(console, stop),
+    match plan(alloc, words) {
+        Ok(plan) => carry_out(alloc, &plan, source, drawer, console),
+        Err(PlanError::NoPlan) => refuse_words(console),
+        Err(PlanError::Memory) => starve(console),
     }
 }

@@ -1,25 +1,26 @@
 // What a plan makes of a source.
-ghost use Rattle.std.specs.Prelude.{◌≡◌, ◌≤◌, ◌++◌, ℕ, List, Option, Some, IfOk, OnOk, IsErrOf, length, replicate, string_bytes};
-ghost use Rattle.std.specs.Io.KnownBytes.{IsAtEnd};
+ghost use Rattle.std.specs.Prelude.{◌≡◌, ◌≤◌, ◌<◌, ◌^◌, ◌++◌, [], ℕ, List, Some, IfOk, IsErrOf, length, string_bytes};
 ghost use Rattle.edge.specs.Causes.{Rose};
 ghost use Rattle.doc_model.specs.declared.flaw.Flaw.{Flaw};
 ghost use Rattle.cmd_words.specs.Turns.{IsWithinLimits};
-ghost use Rattle.sessions.specs.Running.{CanRun, counts_of, made_of, outcome_of};
-ghost use Rattle.sessions.specs.Standing.{answer_of, steps_of_session};
+ghost use Rattle.sessions.specs.Running.{made_of, outcomes_of};
+ghost use Rattle.sessions.specs.Standing.{Holds, answer_of, counts_of, steps_of_session};
+ghost use Rattle.turn_play.specs.Playing.{IsReadInTime};
+ghost use Rattle.turn_play.specs.Progress.{progress_text};
+ghost use Rattle.turn_play.specs.Turns.{last_runs};
+ghost use Rattle.delivery.specs.Answer.{made_answer, flawed_answer, fault_text, flaw_line, messages_of};
 ghost use Rattle.driver.specs.declared.transform.Stop.TheVariants as stop;
-ghost use Rattle.driver.specs.Progress.{progress_text};
-ghost use Rattle.driver.specs.Top.{IsJudged, StopsWithoutFlaw, made_answer, flawed_answer, fault_text, flaw_line};
-ghost use Rattle.driver.specs.Turns.{last_runs};
+ghost use Rattle.driver.specs.Top.{IsJudged, StopsWithoutFlaw};
 
-use crate::console::{say_faults, say_flaw};
-use crate::limits::LIMITS;
-use crate::play::{last_turns, play_turns};
 use cmd_words::{Pair, Plan};
+use delivery::{say_faults, say_flaw};
+use doc_model::Limits;
 use edge::{Memory, Source};
 use lists::List;
 use sessions::{Fed, Outcome, Session};
 use std::alloc::{AllocError, Global};
 use thiserror::Error;
+use turn_play::{last_turns, play_turns};
 
 /// What the transformations came to, and the console text.
 #[derive(Debug, Drop)]
@@ -61,11 +62,11 @@ impl From<Memory> for Stop {
 // The last turns, and what each transformation came to.
 fn finish(alloc: Global, session: Session, pairs: &[Pair], said: String) -> Result<Made, Stop>
     requires ended { answer_of session ≡ Some Fed.Ended }
-    requires runs { CanRun session }
+    requires holds { Holds session }
     requires readers { length (counts_of session) ≡ length pairs.now }
     requires few { length pairs.now ≤ 16 }
-    ensures outcomes { IfOk result (λ made. made.outcomes ≡ replicate (length pairs.now) (outcome_of (steps_of_session session))) }
-    ensures said { IfOk result (λ made. string_bytes made.said ≡ (string_bytes said ++ progress_text (last_runs (length pairs.now) (made_of (steps_of_session session)))) ++ fault_text pairs.now made.outcomes) }
+    ensures outcomes { IfOk result (λ made. made.outcomes ≡ outcomes_of (length pairs.now) (steps_of_session session)) }
+    ensures said { IfOk result (λ made. string_bytes made.said ≡ (string_bytes said ++ progress_text (last_runs (length pairs.now) (λ reader. made_of reader (steps_of_session session)))) ++ fault_text pairs.now made.outcomes) }
     ensures memory { IsErrOf result stop.Failed → ⊥ }
     ensures no_flaw { (said : _) → IsErrOf result (stop.Flawed said) → ⊥ }
 {
@@ -78,19 +79,27 @@ fn finish(alloc: Global, session: Session, pairs: &[Pair], said: String) -> Resu
 }
 
 /// Reads the source to its end or its first flaw while the readers take their turns.
-pub fn transform<S: Source>(alloc: Global, plan: &Plan, source: &mut S) -> Result<Made, Stop>
-    requires { IsWithinLimits plan.now }
-    ensures made { IfOk result (λ made. (progress : List ℕ) × (IsJudged plan.now (S.left source.old) (made_answer plan.now.pairs made.outcomes progress)
-        × (string_bytes made.said ≡ progress ++ fault_text plan.now.pairs made.outcomes))) }
-    ensures end { OnOk result (IsAtEnd (S.left source.new)) }
-    ensures flawed { (said : _) → IsErrOf result (stop.Flawed said) → (progress : List ℕ) × ((flaw : Flaw) × (IsJudged plan.now (S.left source.old) (flawed_answer progress flaw)
+pub fn transform<S: Source>(
+    alloc: Global,
+    plan: &Plan,
+    limits: Limits,
+    source: &mut S,
+) -> Result<Made, Stop>
+    requires within { IsWithinLimits plan.now }
+    requires rows { 1 ≤ limits.rows }
+    requires names { limits.names ≤ 65536 }
+    requires text { limits.text < 2 ^ 32 }
+    ensures made { IfOk result (λ made. (progress : List ℕ) × (IsJudged limits plan.now (S.left source.old) (S.left source.new) (made_answer plan.now.pairs made.outcomes progress)
+        × ((string_bytes made.said ≡ progress ++ fault_text plan.now.pairs made.outcomes) × (messages_of made.outcomes ≡ [])))) }
+    ensures flawed { (said : _) → IsErrOf result (stop.Flawed said) → (progress : List ℕ) × ((flaw : Flaw) × (IsJudged limits plan.now (S.left source.old) (S.left source.new) (flawed_answer progress flaw)
         × (string_bytes said ≡ progress ++ flaw_line flaw))) }
-    ensures failed { IsErrOf result stop.Failed → Rose (S.faults source.old) (S.faults source.new) × StopsWithoutFlaw (S.left source.old) (S.left source.new) }
+    ensures failed { IsErrOf result stop.Failed → Rose (S.faults source.old) (S.faults source.new) × StopsWithoutFlaw limits (S.left source.old) (S.left source.new) }
+    ensures asked { IsReadInTime limits (S.left source.old) (S.left source.new) }
 {
     let items = plan.items(alloc)?;
-    let mut session = Session::start(alloc, plan.pairs.len() as u32, LIMITS)?;
+    let mut session = Session::start(alloc, plan.pairs.len() as u32, limits)?;
     let mut said = String::new(alloc);
-    match play_turns(alloc, &mut session, source, items.as_slice(), &mut said)? {
+    match play_turns(alloc, &mut session, source, items.as_slice(), &mut said) {
         Fed::Ended => finish(alloc, session, plan.pairs.as_slice(), said),
         Fed::Flawed(flaw) => {
             say_flaw(alloc, flaw, &mut said)?;

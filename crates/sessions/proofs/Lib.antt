@@ -1,5 +1,1 @@
-mod Sources
-mod Lasting
-mod Cuts
-mod Answers
 mod Readers

@@ -1,6 +1,7 @@
 -- What the readers have made of a table.
-use Rattle.std.proofs.Common.{◌≡◌, ℕ, zero, suc, ◌<◌, List, [], ◌∷◌, ◌++◌, length, map, replicate, get_or, set, Result, Ok, Err, OnOk, OnErr, refl, ◌∙◌, ap, subst, arith}
-use Rattle.std.proofs.lemmas.List.{map-set}
+use Rattle.std.proofs.Common.{◌≡◌, ℕ, zero, suc, ◌+◌, ◌<◌, List, [], ◌∷◌, ◌++◌, length, map, replicate, get_or, set, refl, sym, ◌∙◌, ap, subst, arith}
+use Rattle.std.proofs.lemmas.List.{map-set, length-map}
+use Rattle.std.specs.List.{range_with_len}
 use Rattle.doc_model.specs.declared.step.Step.{Step}
 use Rattle.doc_model.specs.Cells.{Cells}
 use Rattle.doc_model.specs.Lawful.{Grows}
@@ -28,7 +29,7 @@ stood_still cells later moves =
 pub still_turn : (walker : Walking) (bytes : List ℕ) (before later : List Step) (turn : Turn) → later ≡ before → TurnIs walker bytes before later turn → TurnIs walker bytes before before turn
 still_turn walker bytes before later turn same is = subst (λ (steps : List Step). TurnIs walker bytes before steps turn) same is
 
-pub turn_told : (walker : Walking) (bytes : List ℕ) (steps : List Step) (turn : Turn) → TurnIs walker bytes steps steps turn → IsTurn steps turn
+pub turn_told : (walker : Walking) (bytes : List ℕ) (steps : List Step) (turn : Turn) → TurnIs walker bytes steps steps turn → IsTurn 0 steps turn
 turn_told walker bytes steps (NotYet m) is = let it = at_still steps (WaitsFor walker bytes m) is in (it.sound, it.going, it.waits)
 turn_told walker bytes steps Done is = (is.sound, is.shut)
 turn_told walker bytes steps (Faulted kind) is = is.fault
@@ -54,15 +55,8 @@ behind_set steps [] i next behind it = tt
 behind_set steps (follower ∷ followers) zero next behind it = (it, behind.1)
 behind_set steps (follower ∷ followers) (suc i) next behind it = (behind.0, behind_set steps followers i next behind.1 it)
 
-pub counted : {T E : Type 0} (result : Result T E) (followers : List Follower) (i : ℕ) (next : Follower) (made : ℕ) → OnOk result (next.walker.made ≡ made)
-    → OnOk result (map made_by (set followers i next) ≡ set (map made_by followers) i made)
-counted (Ok turn) followers i next made is = map-set made_by followers i next ∙ ap (λ (count : ℕ). set (map made_by followers) i count) is
-counted (Err error) followers i next made is = tt
-
-pub starved : {T E : Type 0} (result : Result T E) (followers : List Follower) (i : ℕ) (next : Follower)
-    → OnErr result ((made : ℕ) × (map made_by (set followers i next) ≡ set (map made_by followers) i made))
-starved (Ok turn) followers i next = tt
-starved (Err error) followers i next = (next.walker.made, map-set made_by followers i next)
+pub counted : (followers : List Follower) (i : ℕ) (next : Follower) (made : ℕ) → next.walker.made ≡ made → map made_by (set followers i next) ≡ set (map made_by followers) i made
+counted followers i next made is = map-set made_by followers i next ∙ ap (λ (count : ℕ). set (map made_by followers) i count) is
 
 pub one_more_zero : (n : ℕ) → replicate {A = ℕ} (suc n) 0 ≡ replicate n 0 ++ 0 ∷ []
 one_more_zero zero = refl
@@ -71,6 +65,21 @@ one_more_zero (suc n) = ap (λ (zeros : List ℕ). 0 ∷ zeros) (one_more_zero n
 pub all_one : (followers : List Follower) (outcome : Outcome) → map (λ (_ : Follower). outcome) followers ≡ replicate (length followers) outcome
 all_one [] outcome = refl
 all_one (follower ∷ followers) outcome = ap (λ (outcomes : List Outcome). outcome ∷ outcomes) (all_one followers outcome)
+
+one_each : (n from : ℕ) (outcome : Outcome) → replicate n outcome ≡ map (λ (_ : ℕ). outcome) (range_with_len from n)
+one_each zero from outcome = refl
+one_each (suc n) from outcome = ap (λ (outcomes : List Outcome). outcome ∷ outcomes) (one_each n (from + 1) outcome)
+
+-- the readers' outcomes, one for each
+pub outcomes_told : (followers : List Follower) (outcome : Outcome) → map (λ (_ : Follower). outcome) followers ≡ map (λ (_ : ℕ). outcome) (range_with_len 0 (length (map made_by followers)))
+outcomes_told followers outcome =
+    all_one followers outcome ∙ one_each (length followers) 0 outcome ∙ ap (λ (n : ℕ). map (λ (_ : ℕ). outcome) (range_with_len 0 n)) (sym (length-map followers made_by))
+
+-- a count that is set to itself
+pub set_same : (counts : List ℕ) (i other : ℕ) → i < length counts → counts ≡ set counts i (get_or counts i other)
+set_same [] i other below = absurd (omega arith)
+set_same (count ∷ counts) zero other below = refl
+set_same (count ∷ counts) (suc i) other below = ap (λ (rest : List ℕ). count ∷ rest) (set_same counts i other (omega arith))
 
 pub nothing_left : (followers : List Follower) → length followers ≡ 0 → followers ≡ []
 nothing_left [] none = refl

@@ -1,5 +1,2 @@
-pub mod Feeds
-pub mod Standing
-pub mod Feeding
 pub mod Running
-pub mod Answering
+pub mod Standing

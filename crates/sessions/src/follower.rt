@@ -1,18 +1,17 @@
 // A reader of the table, and the bytes that it has given.
-ghost use Rattle.std.specs.Prelude.{◌≡◌, [], IfOk, OnOk, map, replicate, length};
+ghost use Rattle.std.specs.Prelude.{◌≡◌, [], IfOk, OnOk, replicate, length};
 ghost use Rattle.doc_model.specs.Rows.{rows_of};
 ghost use Rattle.text_walk.specs.BuiltIn.{reached};
 ghost use Rattle.text_walk.specs.Text.{text_of};
 ghost use Rattle.text_walk.specs.Walking.{IsBehind};
-ghost use Rattle.sessions.specs.declared.follower.Follower.{Follower};
-ghost use Rattle.sessions.specs.Running.{made_of, outcome_of, IsTurn, AreBehind};
+ghost use Rattle.sessions.specs.Running.{made_by_builtin, builtin_outcome, outcomes_of, counts_in, IsTurn, AreBehind};
 
 use crate::outcome::Outcome;
 use edge::Memory;
 use lists::List;
 use plain_columns::Plain;
 use std::alloc::{AllocError, Global};
-use text_walk::{Turn, Walker};
+use text_walk::{Turn, Walker, still_turn_stands};
 
 #[derive(Drop)]
 pub struct Follower {
@@ -34,11 +33,12 @@ impl Follower {
     /// Goes on as far as the table has grown.
     pub fn run(&mut self, alloc: Global, table: &Plain) -> Result<Turn, Memory>
         requires { IsBehind self.old.walker table.now.cells.steps self.old.text.items }
-        ensures turn { IfOk result (λ turn. IsTurn table.now.cells.steps turn) }
-        ensures made { OnOk result (self.new.walker.made ≡ made_of table.now.cells.steps) }
+        ensures turn { IfOk result (λ turn. IsTurn 0 table.now.cells.steps turn) }
+        ensures made { OnOk result (self.new.walker.made ≡ made_by_builtin table.now.cells.steps) }
         ensures text { OnOk result (self.new.text.items ≡ text_of (reached (rows_of table.now.cells.steps))) }
         ensures behind { IsBehind self.new.walker table.now.cells.steps self.new.text.items }
     {
+        still_turn_stands();
         match self.walker.turn(alloc, &mut table.view(), &mut self.text) {
             Ok(turn) => Ok(turn),
             Err(_) => Err(Memory),
@@ -54,7 +54,7 @@ impl Follower {
     /// Runs what is left: what the reader comes to in a whole table.
     pub fn finish(self, alloc: Global, table: &Plain) -> Result<Outcome, Memory>
         requires { IsBehind self.walker table.now.cells.steps self.text.items }
-        ensures { IfOk result (λ outcome. outcome ≡ outcome_of table.now.cells.steps) }
+        ensures { IfOk result (λ outcome. outcome ≡ builtin_outcome table.now.cells.steps) }
     {
         let mut follower = self;
         let turn = follower.run(alloc, table)?;
@@ -74,7 +74,7 @@ impl Follower {
 
 /// So many readers, which have read nothing.
 pub fn start_followers(alloc: Global, count: u32) -> Result<Vec<Follower>, AllocError>
-    ensures made { IfOk result (λ followers. map (λ (follower : Follower). follower.walker.made) followers.items ≡ replicate count 0) }
+    ensures made { IfOk result (λ followers. counts_in followers.items ≡ replicate count 0) }
     ensures behind { IfOk result (λ followers. AreBehind [] followers.items) }
 {
     let mut followers = Vec::new(alloc);
@@ -91,7 +91,7 @@ pub fn finish_followers(
     table: &Plain,
 ) -> Result<List<Outcome>, Memory>
     requires { AreBehind table.now.cells.steps followers.items }
-    ensures { IfOk result (λ outcomes. outcomes ≡ replicate (length followers.items) (outcome_of table.now.cells.steps)) }
+    ensures { IfOk result (λ outcomes. outcomes ≡ outcomes_of (length (counts_in followers.items)) table.now.cells.steps) }
 {
     let mut outcomes = List::new(alloc);
     for follower in followers {

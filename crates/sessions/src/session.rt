@@ -1,20 +1,18 @@
-ghost use Rattle.std.specs.Prelude.{◌≡◌, ◌+◌, ◌<◌, ◌≤◌, ◌^◌, ℕ, List, [], ◌∷◌, Option, Some, None, IfOk, IfSome, OnOk, OnErr, length, replicate, slice_index, slice_set};
+ghost use Rattle.std.specs.Prelude.{◌≡◌, ◌+◌, ◌<◌, ◌≤◌, ◌^◌, ℕ, List, [], ◌∷◌, Option, Some, None, IsTrue, IfOk, IfSome, OnOk, OnErr, length, replicate, slice_index, slice_set};
 ghost use Rattle.doc_model.specs.declared.flaw.Flaw.{Flaw};
-ghost use Rattle.doc_model.specs.declared.limits.Limits.{Limits};
 ghost use Rattle.edge.specs.Causes.{Rose};
 ghost use Rattle.pyx_lines.specs.declared.line.Line.{Line};
-ghost use Rattle.sessions.specs.declared.fed.Fed.TheVariants as variant;
+ghost use Rattle.pyx_source.specs.Moving.{ReadsOnlyForALine};
+ghost use Rattle.line_feeder.specs.Feeding.{for_good, FindsEnd, FindsFlaw, Fails, Starves};
+ghost use Rattle.line_feeder.specs.Reads.{HasReadFor};
 
-use crate::answering::{build_end, build_line, start_builder, stop};
-use crate::fed::Fed;
 use crate::follower::{Follower, finish_followers, start_followers};
 use crate::outcome::Outcome;
 use doc_model::Limits;
-use dtm_builder::Builder;
 use edge::{Memory, Source};
+use line_feeder::{Fed, Feeder};
 use lists::List;
 use plain_columns::Plain;
-use pyx_source::LineReader;
 use std::alloc::Global;
 use text_walk::Turn;
 
@@ -22,20 +20,14 @@ use text_walk::Turn;
 /// template rules (XSLT 1.0, section 5.8). Feeds and runs come in any order.
 #[derive(Drop)]
 pub struct Session {
-    reader: LineReader,
-    builder: Builder,
+    feeder: Feeder,
     table: Plain,
     followers: Vec<Follower>,
-    // the answer that is given for good
-    answer: Option<Fed>,
-    ghost lasting: { answer ≡ Some variant.Line → ⊥ },
 }
 
 impl Session {
-    ghost use Rattle.sessions.specs.Standing.{HasBeenFed, CanBeFed, steps_of_session, answer_of};
-    ghost use Rattle.sessions.specs.Feeding.{for_good, FindsEnd, FindsFlaw, Fails, Starves};
-    ghost use Rattle.sessions.specs.Answering.{FeedIs};
-    ghost use Rattle.sessions.specs.Running.{made_of, outcome_of, IsTurn, CanRun, counts_of};
+    ghost use Rattle.sessions.specs.Standing.{Holds, HasBeenFed, steps_of_session, limits_of, answer_of, lines_given, held_by, met_end, counts_of};
+    ghost use Rattle.sessions.specs.Running.{made_of, outcomes_of, IsTurn};
 
     /// A session for 1 to 16 readers that has read nothing yet. Takes all memory that the table will need,
     /// and fails only for want of it.
@@ -45,13 +37,12 @@ impl Session {
         requires rows { 1 ≤ limits.rows }
         requires names { limits.names ≤ 65536 }
         requires text { limits.text < 2 ^ 32 }
-        ensures fed { IfOk result (λ session. (told : Option (List ℕ)) → HasBeenFed session limits told told []) }
-        ensures ready { IfOk result (λ session. (left : Option (List ℕ)) → CanBeFed session left) }
-        ensures runs { IfOk result (λ session. CanRun session) }
+        ensures fed { IfOk result (λ session. (told : Option (List ℕ)) → HasBeenFed session told told []) }
+        ensures holds { IfOk result Holds }
+        ensures limits { IfOk result (λ session. limits_of session ≡ limits) }
         ensures counts { IfOk result (λ session. counts_of session ≡ replicate readers 0) }
     {
-        let reader = LineReader::start(alloc)?;
-        let builder = start_builder(alloc, limits)?;
+        let feeder = Feeder::start(alloc, limits)?;
         let Ok(table) = Plain::start(alloc, limits) else {
             return Err(Memory);
         };
@@ -59,11 +50,9 @@ impl Session {
             return Err(Memory);
         };
         Ok(Session {
-            reader,
-            builder,
+            feeder,
             table,
             followers,
-            answer: None,
         })
     }
 
@@ -74,83 +63,76 @@ impl Session {
     ///
     /// Flawed comes exactly at the first flaw, Failed only where the source failed: then every line that
     /// ends in the bytes read was fed. The table then ends as Bad or Failed, and for want of memory as
-    /// Starved.
+    /// Starved. It reads only while what is held has no line feed, and nothing after the source's end, a
+    /// flaw, a failed read or want of memory, be it of a run.
     pub fn feed<S: Source>(&mut self, alloc: Global, source: &mut S) -> Fed
-        requires { CanBeFed self.old (S.left source.old) }
+        requires { Holds self.old }
 
         // What is fed, and what is found.
-        ensures line { (limits : Limits) (told : Option (List ℕ)) (lines : List Line) → HasBeenFed self.old limits told (S.left source.old) lines →
-            result ≡ Fed.Line → (line : Line) × HasBeenFed self.new limits told (S.left source.new) (line ∷ lines) }
-        ensures ended { (limits : Limits) (told : Option (List ℕ)) (lines : List Line) → HasBeenFed self.old limits told (S.left source.old) lines →
-            result ≡ Fed.Ended → FindsEnd limits told (S.left source.new) lines (steps_of_session self.old) (steps_of_session self.new) }
-        ensures flawed { (limits : Limits) (told : Option (List ℕ)) (lines : List Line) (flaw : Flaw) → HasBeenFed self.old limits told (S.left source.old) lines →
-            result ≡ Fed.Flawed flaw → FindsFlaw limits told lines flaw (steps_of_session self.old) (steps_of_session self.new) }
-        ensures failed { (limits : Limits) (told : Option (List ℕ)) (lines : List Line) → HasBeenFed self.old limits told (S.left source.old) lines →
-            result ≡ Fed.Failed → Fails limits told (S.left source.new) lines (steps_of_session self.old) (steps_of_session self.new) }
+        ensures line { (told : Option (List ℕ)) (lines : List Line) → HasBeenFed self.old told (S.left source.old) lines →
+            result ≡ Fed.Line → (line : Line) × HasBeenFed self.new told (S.left source.new) (line ∷ lines) }
+        ensures ended { (told : Option (List ℕ)) (lines : List Line) → HasBeenFed self.old told (S.left source.old) lines →
+            result ≡ Fed.Ended → FindsEnd (limits_of self.old) told (S.left source.new) lines (steps_of_session self.old) (steps_of_session self.new) }
+        ensures flawed { (told : Option (List ℕ)) (lines : List Line) (flaw : Flaw) → HasBeenFed self.old told (S.left source.old) lines →
+            result ≡ Fed.Flawed flaw → FindsFlaw (limits_of self.old) told lines flaw (steps_of_session self.old) (steps_of_session self.new) }
+        ensures failed { (told : Option (List ℕ)) (lines : List Line) → HasBeenFed self.old told (S.left source.old) lines →
+            result ≡ Fed.Failed → Fails (limits_of self.old) told (S.left source.new) lines (steps_of_session self.old) (steps_of_session self.new) }
         ensures rose { answer_of self.old ≡ None → result ≡ Fed.Failed → Rose (S.faults source.old) (S.faults source.new) }
-        ensures starved { (limits : Limits) (told : Option (List ℕ)) (lines : List Line) → HasBeenFed self.old limits told (S.left source.old) lines →
-            result ≡ Fed.Memory → Starves limits told (steps_of_session self.old) (steps_of_session self.new) }
+        ensures starved { (told : Option (List ℕ)) (lines : List Line) → HasBeenFed self.old told (S.left source.old) lines →
+            result ≡ Fed.Memory → Starves (limits_of self.old) told (steps_of_session self.old) (steps_of_session self.new) }
 
         // Each answer but Line is given for good.
         ensures kept { answer_of self.new ≡ for_good result }
         ensures for_good { IfSome (answer_of self.old) (λ fed. (result ≡ fed) × (self.new ≡ self.old) × (source.new ≡ source.old)) }
 
-        // The next feed, the readers and the source.
-        ensures ready { CanBeFed self.new (S.left source.new) }
-        ensures runs { CanRun self.old → CanRun self.new }
+        // What it reads.
+        ensures reads { ReadsOnlyForALine (lines_given self.old) (held_by self.old) (S.left source.old) (S.left source.new) }
+        ensures asked { (told : Option (List ℕ)) (lines : List Line) → HasBeenFed self.old told (S.left source.old) lines →
+            HasReadFor told (S.left source.new) (length lines + 1) }
+        ensures over { IsTrue (met_end self.old) → source.new ≡ source.old }
+        ensures counted { result ≡ Fed.Line → (lines_given self.new ≡ lines_given self.old + 1) × (lines_given self.new ≤ 4294967295) }
+
+        // The next call, the readers and the source.
+        ensures holds { Holds self.new }
+        ensures limits { limits_of self.new ≡ limits_of self.old }
         ensures counts { counts_of self.new ≡ counts_of self.old }
         ensures later { S.faults source.old ≤ S.faults source.new }
     {
-        if let Some(fed) = self.answer {
-            return fed;
-        }
-        let fed = self.advance(alloc, source);
-        self.answer = fed.for_good();
-        fed
-    }
-
-    // Reads the next line and has it built, or ends the table.
-    fn advance<S: Source>(&mut self, alloc: Global, source: &mut S) -> Fed
-        requires going { answer_of self.old ≡ None }
-        requires fed { CanBeFed self.old (S.left source.old) }
-        ensures line { (limits : Limits) (told : Option (List ℕ)) (lines : List Line) → HasBeenFed self.old limits told (S.left source.old) lines →
-            result ≡ Fed.Line → (line : Line) × HasBeenFed self.new limits told (S.left source.new) (line ∷ lines) }
-        ensures answer { (limits : Limits) (told : Option (List ℕ)) (lines : List Line) → HasBeenFed self.old limits told (S.left source.old) lines →
-            FeedIs limits told (S.left source.new) lines (steps_of_session self.old) (steps_of_session self.new) result }
-        ensures rose { result ≡ Fed.Failed → Rose (S.faults source.old) (S.faults source.new) }
-        ensures followers { self.new.followers ≡ self.old.followers }
-        ensures later { S.faults source.old ≤ S.faults source.new }
-    {
-        match self.reader.next(alloc, source) {
-            Ok(Some(line)) => build_line(&mut self.builder, &mut self.table, alloc, line),
-            Ok(None) => build_end(&mut self.builder, &mut self.table, alloc),
-            Err(error) => stop(
-                &mut self.builder,
-                &mut self.table,
-                error,
-                self.reader.line(),
-            ),
-        }
+        self.feeder.feed(alloc, source, &mut self.table)
     }
 
     /// Gives reader `i` one turn: it goes on where its last turn stopped, as far as the table has grown.
     /// May come at any time, also after Ended. Costs the rows that are new to the reader. Fails only for want
-    /// of memory, and then the reader goes on at its next turn.
+    /// of memory, and then every call does, and a feed answers Memory.
     pub fn run(&mut self, alloc: Global, i: u32) -> Result<Turn, Memory>
         requires below { i < length (counts_of self.old) }
-        requires runs { CanRun self.old }
-        ensures turn { IfOk result (λ turn. IsTurn (steps_of_session self.old) turn) }
-        ensures counts { OnOk result (counts_of self.new ≡ slice_set (counts_of self.old) i (made_of (steps_of_session self.old))) }
+        requires holds { Holds self.old }
+        ensures turn { IfOk result (λ turn. IsTurn i (steps_of_session self.old) turn) }
+        ensures counts { OnOk result (counts_of self.new ≡ slice_set (counts_of self.old) i (made_of i (steps_of_session self.old))) }
         ensures starved { OnErr result ((made : ℕ) × (counts_of self.new ≡ slice_set (counts_of self.old) i made)) }
 
+        // Want of memory is for good.
+        ensures going { OnOk result (answer_of self.new ≡ answer_of self.old) }
+        ensures kept { OnErr result (answer_of self.new ≡ Some Fed.Memory) }
+        ensures for_good { answer_of self.old ≡ Some Fed.Memory → OnOk result ⊥ }
+
         // All else stays.
-        ensures runs { CanRun self.new }
-        ensures ready { (left : Option (List ℕ)) → CanBeFed self.old left → CanBeFed self.new left }
+        ensures fed { OnOk result ((told left : Option (List ℕ)) (lines : List Line) → HasBeenFed self.old told left lines → HasBeenFed self.new told left lines) }
+        ensures given { OnOk result (lines_given self.new ≡ lines_given self.old) }
+        ensures holds { Holds self.new }
+        ensures limits { limits_of self.new ≡ limits_of self.old }
         ensures steps { steps_of_session self.new ≡ steps_of_session self.old }
-        ensures answer { answer_of self.new ≡ answer_of self.old }
-        ensures fed { (limits : Limits) (told left : Option (List ℕ)) (lines : List Line) → HasBeenFed self.old limits told left lines → HasBeenFed self.new limits told left lines }
     {
-        self.followers[i as usize].run(alloc, &self.table)
+        if self.feeder.has_starved() {
+            return Err(Memory);
+        }
+        match self.followers[i as usize].run(alloc, &self.table) {
+            Ok(turn) => Ok(turn),
+            Err(error) => {
+                self.feeder.starve();
+                Err(error)
+            }
+        }
     }
 
     /// How many result events reader `i` has made: those of its last turn.
@@ -164,8 +146,8 @@ impl Session {
     /// What each reader comes to, in their order: runs what is left. Fails only for want of memory.
     pub fn finish(self, alloc: Global) -> Result<List<Outcome>, Memory>
         requires ended { answer_of self ≡ Some Fed.Ended }
-        requires runs { CanRun self }
-        ensures { IfOk result (λ outcomes. outcomes ≡ replicate (length (counts_of self)) (outcome_of (steps_of_session self))) }
+        requires holds { Holds self }
+        ensures { IfOk result (λ outcomes. outcomes ≡ outcomes_of (length (counts_of self)) (steps_of_session self)) }
     {
         finish_followers(alloc, self.followers, &self.table)
     }

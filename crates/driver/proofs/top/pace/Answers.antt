@@ -1,23 +1,29 @@
-use Rattle.std.proofs.Common.{map, string_bytes}
-use Rattle.driver.proofs.TopLemmas.{answers_usage, due_usage, due_memory, due_stop}
+use Rattle.std.proofs.Common.{◌≡◌, Option, Some, None, inl, inr, refl, map, string_bytes, sym, ◌∙◌}
+use Rattle.cmd_words.specs.Words.{plan_of}
+use Rattle.driver.specs.Judged.{usage_answer, memory_answer}
+use Rattle.driver.proofs.JudgedLemmas.{some_plan, unread}
 use Rattle.driver.proofs.top.pace.Goals as goal
 
-pub returns-clause-write_failed : goal.returns-clause-write_failed
-returns-clause-write_failed g c = λ six.
-    due_stop (g.S.Source.left c.args.source.now) (g.S.Source.left c.transform.new.source) (map string_bytes c.args.words.now) c.in-Ok.plan c.in-Err.stop _ _ _ _ _ _ _ _ _
-    c.in-Ok.ensures.plan c.in-Err.ensures.flawed c.in-Err.ensures.failed (c.refuse.ensures.write_failed six)
+pub returns-in-Ok-clause-answers : goal.returns-in-Ok-clause-answers
+returns-in-Ok-clause-answers g c =
+    c.carry_out.ensures (map string_bytes c.args.words.now) _ _ _ c.in-Ok.ensures.plan
 
-pub returns-in-Err-NoPlan-clause-answer : goal.returns-in-Err-NoPlan-clause-answer
-returns-in-Err-NoPlan-clause-answer g c =
+pub returns-in-Err-NoPlan-clause-answers : goal.returns-in-Err-NoPlan-clause-answers
+returns-in-Err-NoPlan-clause-answers g c =
     let none = c.plan.ensures.no_plan.0 (rw c.in-Err-NoPlan.field-0-is at c.in-Err-NoPlan.is) in
-    answers_usage (g.S.Source.left c.args.source.now) (map string_bytes c.args.words.now) _ _ _ _ none c.say.ensures.code c.say.ensures.said
+    record {
+      due = usage_answer;
+      cause = inl (none, refl);
+      delivered = c.refuse_words.ensures (g.O.Drawer.puts c.args.drawer.now) _ (g.O.Drawer.faults c.args.drawer.now);
+      asked = unread _ (g.S.Source.left c.args.source.now);
+    }
 
-pub returns-in-Err-NoPlan-clause-write_failed : goal.returns-in-Err-NoPlan-clause-write_failed
-returns-in-Err-NoPlan-clause-write_failed g c = λ six.
-    let none = c.plan.ensures.no_plan.0 (rw c.in-Err-NoPlan.field-0-is at c.in-Err-NoPlan.is) in
-    due_usage (g.S.Source.left c.args.source.now) (map string_bytes c.args.words.now) _ _ _ _ _ _ _ _ none (c.say.ensures.failed six)
-
-pub returns-in-Err-Memory-clause-write_failed : goal.returns-in-Err-Memory-clause-write_failed
-returns-in-Err-Memory-clause-write_failed g c = λ six.
-    let failed = c.say-in-Err-Memory.ensures.failed six in
-    due_memory (g.S.Source.left c.args.source.now) (map string_bytes c.args.words.now) _ _ _ _ _ _ _ _ _ failed.0 failed.1
+pub returns-in-Err-Memory-clause-answers : goal.returns-in-Err-Memory-clause-answers
+returns-in-Err-Memory-clause-answers g c =
+    let plan = some_plan (plan_of (map string_bytes c.args.words.now)) (λ none. let is = c.plan.ensures.no_plan.1 none in let memory = c.in-Err-Memory.is in let field = c.in-Err-Memory.field-0-is in cc) in
+    record {
+      due = memory_answer;
+      cause = inr (plan.0, (plan.1, inr (inr refl)));
+      delivered = c.starve.ensures (g.O.Drawer.puts c.args.drawer.now) _ (g.O.Drawer.faults c.args.drawer.now);
+      asked = unread _ (g.S.Source.left c.args.source.now);
+    }

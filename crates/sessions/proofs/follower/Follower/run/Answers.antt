@@ -2,7 +2,6 @@ use Rattle.std.proofs.Common.{subst}
 use Rattle.plain_columns.specs.Seen.{seen_of}
 use Rattle.plain_columns.specs.Value.{Table}
 use Rattle.text_walk.specs.Turning.{TurnIs}
-use Rattle.text_walk.proofs.Final.{stands_still}
 use Rattle.sessions.proofs.Readers.{stood_still, still_turn, turn_told}
 use Rattle.sessions.proofs.follower.Follower.run.Goals as goal
 
@@ -18,7 +17,7 @@ pub returns-in-Ok-clause-turn : goal.returns-in-Ok-clause-turn
 returns-in-Ok-clause-turn c = turn_told _ _ _ _ (told c)
 
 pub returns-in-Ok-clause-made : goal.returns-in-Ok-clause-made
-returns-in-Ok-clause-made c = (stands_still _ _ _ _ (told c)).made
+returns-in-Ok-clause-made c = (c.still_turn_stands.ensures _ _ _ _ (told c)).made
 
 pub returns-in-Ok-clause-text : goal.returns-in-Ok-clause-text
-returns-in-Ok-clause-text c = (stands_still _ _ _ _ (told c)).text
+returns-in-Ok-clause-text c = (c.still_turn_stands.ensures _ _ _ _ (told c)).text

@@ -1,8 +1,9 @@
-use Rattle.std.proofs.Common.{◌<◌, ℕ, length, sym, subst}
+use Rattle.std.proofs.Common.{◌<◌, ℕ, length, get_or, refl, sym, subst}
 use Rattle.std.proofs.lemmas.List.{length-map}
 use Rattle.sessions.specs.declared.follower.Follower.{Follower}
+use Rattle.sessions.specs.Standing.{counts_of}
 use Rattle.text_walk.specs.Walking.{IsBehind}
-use Rattle.sessions.proofs.Readers.{made_by, behind_at, behind_set, counted, starved}
+use Rattle.sessions.proofs.Readers.{made_by, behind_at, behind_set, counted, set_same}
 use Rattle.sessions.proofs.session.Session.run.Goals as goal
 
 pub run-requires : goal.run-requires
@@ -10,19 +11,25 @@ run-requires c =
     let steps = c.args.self.now.table.cells.steps in
     let followers = c.args.self.now.followers.items in
     let below : c.args.i < length followers = subst (λ (n : ℕ). c.args.i < n) (length-map followers made_by) c.requires.below in
-    subst (λ (follower : Follower). IsBehind follower.walker steps follower.text.items) (sym c.index_mut.ensures.value) (behind_at steps followers c.args.i _ c.requires.runs below)
+    subst (λ (follower : Follower). IsBehind follower.walker steps follower.text.items) (sym c.index_mut.ensures.value) (behind_at steps followers c.args.i _ c.requires.holds.runs below)
 
-pub returns-clause-counts : goal.returns-clause-counts
-returns-clause-counts c = counted c.run.result c.args.self.now.followers.items c.args.i c.run.new.self _ c.run.ensures.made
+pub returns-then-has_starved-clause-starved : goal.returns-then-has_starved-clause-starved
+returns-then-has_starved-clause-starved c = (get_or (counts_of c.args.self.now) c.args.i 0, set_same (counts_of c.args.self.now) c.args.i 0 c.requires.below)
 
-pub returns-clause-starved : goal.returns-clause-starved
-returns-clause-starved c = starved c.run.result c.args.self.now.followers.items c.args.i c.run.new.self
+pub returns-in-Ok-clause-counts : goal.returns-in-Ok-clause-counts
+returns-in-Ok-clause-counts c = counted c.args.self.now.followers.items c.args.i c.run.new.self _ c.in-Ok.ensures.made
 
-pub returns-clause-runs : goal.returns-clause-runs
-returns-clause-runs c = behind_set c.args.self.now.table.cells.steps c.args.self.now.followers.items c.args.i c.run.new.self c.requires.runs c.run.ensures.behind
+pub returns-in-Err-clause-starved : goal.returns-in-Err-clause-starved
+returns-in-Err-clause-starved c = (c.run.new.self.walker.made, counted c.args.self.now.followers.items c.args.i c.run.new.self _ refl)
 
-pub returns-clause-ready : goal.returns-clause-ready
-returns-clause-ready c = λ left can none.
-    let fed = can none in
-    let h = fed.1.1.1 in
-    (fed.0, (fed.1.0, (fed.1.1.0, record { going = h.going; limited = h.limited; built = h.built; given = h.given; end = h.end; read = h.read })))
+pub returns-in-Ok-clause-holds : goal.returns-in-Ok-clause-holds
+returns-in-Ok-clause-holds c = record {
+  fills = c.requires.holds.fills;
+  runs = behind_set c.args.self.now.table.cells.steps c.args.self.now.followers.items c.args.i c.run.new.self c.requires.holds.runs c.run.ensures.behind;
+}
+
+pub returns-in-Err-clause-holds : goal.returns-in-Err-clause-holds
+returns-in-Err-clause-holds c = record {
+  fills = λ none. let kept = c.starve.ensures.kept in cc;
+  runs = behind_set c.args.self.now.table.cells.steps c.args.self.now.followers.items c.args.i c.run.new.self c.requires.holds.runs c.run.ensures.behind;
+}

@@ -1,25 +1,14 @@
-use Rattle.std.proofs.Common.{[], IsTrue, refl, sym, ap, subst}
-use Rattle.std.specs.Io.KnownBytes.{IsAtEnd}
-use Rattle.std.proofs.lemmas.Bool.{false≢true}
+use Rattle.std.proofs.Common.{[], sym, ap, subst}
 use Rattle.plain_columns.specs.Value.{Table}
-use Rattle.pyx_source.specs.Reading.{Reading}
-use Rattle.dtm_builder.specs.Standing as building
-use Rattle.sessions.specs.Standing.{HasGiven, HasRead}
-use Rattle.sessions.proofs.Cuts.{fresh_given, fresh_read}
+use Rattle.line_feeder.specs.Standing as feeding
 use Rattle.sessions.proofs.session.Session.start.Goals as goal
 
 pub returns-clause-fed : goal.returns-clause-fed
 returns-clause-fed c = λ told.
-    let reader = sym c.in_ok-reader.ensures in
-    let table = sym c.in-Ok.ensures in
-    record {
-      going = refl;
-      limited = ap (λ (it : Table). it.limits) c.in-Ok.ensures;
-      built = subst (λ (it : Table). building.Stands c.in_ok-builder.builder c.args.limits it.cells []) table c.in_ok-builder.ensures;
-      given = subst (λ (it : Reading). HasGiven it 0) reader fresh_given;
-      end = subst (λ (it : Reading). IsTrue it.ended → IsAtEnd told) reader (λ ended. absurd (false≢true ended));
-      read = subst (λ (it : Reading). HasRead it told told []) reader (fresh_read told);
-    }
+    subst (λ (it : Table). feeding.HasBeenFed c.in_ok-feeder.feeder it.limits it.cells told told []) (sym c.in-Ok.ensures) (c.in_ok-feeder.ensures.fed told)
 
-pub returns-clause-ready : goal.returns-clause-ready
-returns-clause-ready c = λ left _. (c.args.limits, (left, ([], returns-clause-fed c left)))
+pub returns-clause-holds : goal.returns-clause-holds
+returns-clause-holds c = record {
+  fills = subst (λ (it : Table). feeding.CanFeed c.in_ok-feeder.feeder it.limits it.cells) (sym c.in-Ok.ensures) c.in_ok-feeder.ensures.fills;
+  runs = rw (ap (λ (it : Table). it.cells.steps) (sym c.in-Ok.ensures)) at c.in-Ok-start_followers.ensures.behind;
+}

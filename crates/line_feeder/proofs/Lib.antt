@@ -1,0 +1,4 @@
+mod Sources
+mod Lasting
+mod Cuts
+mod Answers

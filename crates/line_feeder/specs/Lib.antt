@@ -1,0 +1,5 @@
+pub mod Feeds
+pub mod Reads
+pub mod Standing
+pub mod Feeding
+pub mod Answering
