@@ -244,47 +244,6 @@ fn calls_are_few_a_row(rt: HostRuntime) -> Result<(), Fail> {
     Ok(())
 }
 
-// Each kind of node, in the namespace `u` and in none.
-const KINDS: &[u8] =
-    b"?s d\n(c:a\nAxmlns:c u\n?t d\nCnote\n-x\n(b\nAc:k 1\nAk 2\n)b\nCend\n)c:a\nCafter";
-
-// The rows below the root, and the attributes of the last element, that meet the test.
-fn met(alloc: Global, table: &Plain, test: &Test) -> Result<(List<u32>, List<u32>), Ask> {
-    let below = walk(alloc, &mut table.view(), 0, Axis::Descendant, test)?;
-    let count = row_count(table);
-    let mut attributes = List::new(alloc);
-    if 6 < count {
-        attributes = walk(alloc, &mut table.view(), 6, Axis::Attribute, test)?;
-    }
-    Ok((below, attributes))
-}
-
-#[test]
-fn every_kind_of_test_is_met_by_these_rows(rt: HostRuntime) -> Result<(), Fail> {
-    let alloc = rt.alloc();
-    let table = whole(alloc, KINDS)?;
-    let u = List::from_slice(alloc, b"u")?;
-    let cases: [(Test, &[u32], &[u32]); 11] = [
-        (Test::Any, &[1, 2, 3, 4, 5, 6, 9, 10], &[7, 8]),
-        (Test::Kind(Kind::Text), &[5], &[]),
-        (Test::Kind(Kind::Comment), &[4, 9, 10], &[]),
-        (Test::Kind(Kind::Instruction), &[1, 3], &[]),
-        (Test::AnyName, &[2, 6], &[7, 8]),
-        (Test::InUri(u.clone()?), &[2], &[7]),
-        (Test::InUri(List::new(alloc)), &[6], &[8]),
-        (name_test(alloc, b"u", b"a")?, &[2], &[]),
-        (name_test(alloc, b"", b"a")?, &[], &[]),
-        (name_test(alloc, b"u", b"k")?, &[], &[7]),
-        (Test::Target(List::from_slice(alloc, b"t")?), &[3], &[]),
-    ];
-    for (test, below, attributes) in cases {
-        let (found_below, found_attributes) = met(alloc, &table, &test)?;
-        assert_eq!(rt; found_below.as_slice(), below);
-        assert_eq!(rt; found_attributes.as_slice(), attributes);
-    }
-    Ok(())
-}
-
 fn name_test(alloc: Global, uri: &[u8], local: &[u8]) -> Result<Test, AllocError> {
     Ok(Test::Name {
         uri: List::from_slice(alloc, uri)?,
