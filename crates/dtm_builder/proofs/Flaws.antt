@@ -1,5 +1,6 @@
 -- The flaws of lines, from those without names and those of names. The lines before are given with the latest first.
-use Rattle.std.proofs.Common.{◌≡◌, ◌⊎◌, ℕ, ◌+◌, ◌<◌, ◌≤◌, ◌==◌, Bool, true, false, ◌&&◌, not, cond, List, [], ◌∷◌, ◌++◌, length, Option, Some, None, refl, ap, ap₂, sym, ◌∙◌, subst, arith, inl, inr, append-nil}
+use Rattle.std.proofs.Common.{◌≡◌, ◌⊎◌, ℕ, ◌+◌, ◌<◌, ◌≤◌, ◌==◌, Bool, true, false, ◌&&◌, not, cond, List, []}
+use Rattle.std.proofs.Common.{◌∷◌, ◌++◌, length, Option, Some, None, refl, ap, ap₂, sym, ◌∙◌, subst, arith, inl, inr, append-nil}
 use Rattle.std.specs.Prelude.{nat_lt, is_some, is_none, min}
 use Rattle.std.specs.List.{list_all, list_any}
 use Rattle.std.proofs.lemmas.Bool.{cases_Bool, cases_lt, eqb-true, false≢true}
@@ -23,7 +24,8 @@ use Rattle.pyx_events.specs.Counted.{Names, free_names, names_of}
 use Rattle.pyx_events.specs.Nodes.{node_rows, attribute_rows, completed, events_to, line_events}
 use Rattle.pyx_events.specs.Steps.{steps_of_events}
 use Rattle.pyx_events.specs.Answer.{sound_node}
-use Rattle.pyx_events.specs.Flaw.{repeats, is_unbound, attribute_unbound, is_full, start_flaw, names_flaw, or_kind, or_flaw, if_pending, completed_flaw, own_flaw, own_end_flaw, start_line, at_line, in_order, line_flaw, end_flaw}
+use Rattle.pyx_events.specs.Flaw.{repeats, is_unbound, attribute_unbound, is_full, start_flaw, names_flaw, or_kind, or_flaw}
+use Rattle.pyx_events.specs.Flaw.{if_pending, completed_flaw, own_flaw, own_end_flaw, start_line, at_line, in_order, line_flaw, end_flaw}
 use Rattle.node_writer.specs.declared.new_names.NewNames.{NewNames}
 use Rattle.node_writer.specs.New.{AddsNames, capped}
 use Rattle.dtm_builder.specs.declared.build_error.BuildError.{BuildError}
@@ -62,7 +64,8 @@ abbrev names_at : Limits → Bool → List Line → Option PendingStart → Opti
 names_at limits free before start = if_pending start (names_flaw limits (names_of free (events_to before ++ completed before start)) (value_bytes before))
 
 pieces : (limits : Limits) (free : Bool) (before : List Line) (start : Option PendingStart) (own : Option FlawKind)
-    → in_order limits free before start own ≡ at_line (start_line start) (start_flaw (bindings 0 before) (depth before) start) (or_flaw (at_line (start_line start) (names_at limits free before start) None) (at_line (length before + 1) own None))
+    → in_order limits free before start own ≡ at_line (start_line start) (start_flaw (bindings 0 before) (depth before) start)
+    (or_flaw (at_line (start_line start) (names_at limits free before start) None) (at_line (length before + 1) own None))
 pieces limits free before start own =
     at_both (start_line start) (start_flaw (bindings 0 before) (depth before) start) (names_at limits free before start) (at_line (length before + 1) own None)
     ∙ ap (at_line (start_line start) (start_flaw (bindings 0 before) (depth before) start)) (at_or (start_line start) (names_at limits free before start) (at_line (length before + 1) own None))
@@ -83,7 +86,8 @@ free_pieces : (limits : Limits) (before : List Line) (start : Option PendingStar
     → in_order limits true before start own ≡ at_line (start_line start) (start_flaw (bindings 0 before) (depth before) start) (at_line (length before + 1) own None)
 free_pieces limits before start own h =
     pieces limits true before start own
-    ∙ ap (λ k. at_line (start_line start) (start_flaw (bindings 0 before) (depth before) start) (or_flaw (at_line (start_line start) k None) (at_line (length before + 1) own None))) (free_at limits before start h)
+    ∙ ap (λ k. at_line (start_line start) (start_flaw (bindings 0 before) (depth before) start) (or_flaw (at_line (start_line start) k None) (at_line (length before + 1) own None)))
+    (free_at limits before start h)
 
 -- the flaw of the first element's names is that of the names of the start
 started_is : (limits : Limits) (before : List Line) (start : Option PendingStart) (events : List Event) → IsFirst events (completed before start) start
@@ -149,12 +153,14 @@ attribute_same false false true d e f one two three four h = refl
 attribute_same false false false true e f one two three four h = absurd (cc)
 attribute_same false false false false e f one two three four h = refl
 
-text_same : (a b e f : Bool) (one two three : FlawKind) → cond a (Some one) (cond b (Some two) (cond e (Some three) None)) ≡ None → cond a (Some one) (cond b (Some two) (cond f (Some three) None)) ≡ cond f (Some three) None
+text_same : (a b e f : Bool) (one two three : FlawKind) → cond a (Some one) (cond b (Some two) (cond e (Some three) None)) ≡ None
+    → cond a (Some one) (cond b (Some two) (cond f (Some three) None)) ≡ cond f (Some three) None
 text_same true b e f one two three h = absurd (cc)
 text_same false true e f one two three h = absurd (cc)
 text_same false false e f one two three h = refl
 
-instruction_same : (a b e f g : Bool) (one two three : FlawKind) → cond a (Some one) (cond b (Some two) (cond e (Some three) None)) ≡ None → cond a (Some one) (cond f (Some two) (cond g (Some three) None)) ≡ cond f (Some two) (cond g (Some three) None)
+instruction_same : (a b e f g : Bool) (one two three : FlawKind) → cond a (Some one) (cond b (Some two) (cond e (Some three) None)) ≡ None
+    → cond a (Some one) (cond f (Some two) (cond g (Some three) None)) ≡ cond f (Some two) (cond g (Some three) None)
 instruction_same true b e f g one two three h = absurd (cc)
 instruction_same false b e f g one two three h = refl
 
@@ -163,7 +169,8 @@ kept_bytes true n = omega arith
 kept_bytes false n = omega arith
 
 -- a line that adds no bytes has no flaw of names
-quiet_line : (limits : Limits) (bytes given values : ℕ) (all : Names) → limits.text < 4294967296 → given ≡ capped (bytes + 0) → values ≡ cond (nat_lt (bytes + 0) given) given (bytes + 0) → IsIn limits bytes all → names_flaw limits all values ≡ None
+quiet_line : (limits : Limits) (bytes given values : ℕ) (all : Names) → limits.text < 4294967296 → given ≡ capped (bytes + 0) → values ≡ cond (nat_lt (bytes + 0) given) given (bytes + 0)
+    → IsIn limits bytes all → names_flaw limits all values ≡ None
 quiet_line limits bytes given values all small d v i =
     let test = judged_test limits.text bytes all.bytes 0 0 0 given values small d v (omega arith) (omega arith) (inl refl) in
     quiet limits values all (not_over limits.names all.count i.count) (sym test ∙ not_over limits.text (bytes + all.bytes + 0) (omega (arith, i.bytes)))
@@ -180,34 +187,42 @@ own_judged limits before (End name) all values h j i = h ∙ sym (quiet_line lim
 own_judged limits before (Attr name value) all values h j i =
     let bytes = value_bytes before in
     let same : own_flaw limits all before (Attr name value) ≡ cond (is_declaration name) None (cond (nat_lt limits.text (bytes + all.bytes + length value)) (Some kind.TooMuchText) None) =
-    attribute_same (not (is_some (pending_start before))) (is_full (pending_start before)) (is_declaration name) (row_count before == limits.rows) (nat_lt limits.text (bytes + 0 + length value)) (nat_lt limits.text (bytes + all.bytes + length value))
+    attribute_same (not (is_some (pending_start before))) (is_full (pending_start before)) (is_declaration name) (row_count before == limits.rows) (nat_lt limits.text (bytes + 0 + length value))
+    (nat_lt limits.text (bytes + all.bytes + length value))
     kind.AttrPlace kind.TooManyAttrs kind.TooManyNodes kind.TooMuchText h in
     elim (cases_Bool (is_declaration name)) [
       | inl e ↦
-          let larger : values ≡ cond (nat_lt (bytes + 0) j.given) j.given (bytes + 0) = j.larger ∙ ap (λ (b : Bool). cond (nat_lt (bytes + cond b 0 (length value)) j.given) j.given (bytes + cond b 0 (length value))) e in
-          same ∙ ap (λ b. cond b None (cond (nat_lt limits.text (bytes + all.bytes + length value)) (Some kind.TooMuchText) None)) e ∙ sym (quiet_line limits bytes j.given values all j.small j.capped larger (i refl))
+          let larger : values ≡ cond (nat_lt (bytes + 0) j.given) j.given (bytes + 0) = j.larger
+          ∙ ap (λ (b : Bool). cond (nat_lt (bytes + cond b 0 (length value)) j.given) j.given (bytes + cond b 0 (length value))) e in
+          same ∙ ap (λ b. cond b None (cond (nat_lt limits.text (bytes + all.bytes + length value)) (Some kind.TooMuchText) None)) e
+          ∙ sym (quiet_line limits bytes j.given values all j.small j.capped larger (i refl))
       | inr e ↦
-          let larger : values ≡ cond (nat_lt (bytes + length value) j.given) j.given (bytes + length value) = j.larger ∙ ap (λ (b : Bool). cond (nat_lt (bytes + cond b 0 (length value)) j.given) j.given (bytes + cond b 0 (length value))) e in
+          let larger : values ≡ cond (nat_lt (bytes + length value) j.given) j.given (bytes + length value) = j.larger
+          ∙ ap (λ (b : Bool). cond (nat_lt (bytes + cond b 0 (length value)) j.given) j.given (bytes + cond b 0 (length value))) e in
           let test = judged_test limits.text bytes all.bytes (length value) 0 (length value) j.given values j.small j.capped larger (omega arith) (omega arith) (inl refl) in
           same ∙ ap (λ b. cond b None (cond (nat_lt limits.text (bytes + all.bytes + length value)) (Some kind.TooMuchText) None)) e
           ∙ ap (λ b. cond b (Some kind.TooMuchText) None) test ∙ only_text limits all values (IsIn.count (i refl))
     ]
 own_judged limits before (Text text) all values h j i =
     let bytes = value_bytes before in
-    let test = judged_test limits.text bytes all.bytes (cond (depth before == 0) 0 (length text)) (length text) (length text) j.given values j.small j.capped j.larger (kept_bytes (depth before == 0) (length text)) (omega arith) (inr refl) in
-    text_same (depth before == 0 && not (list_all is_white text)) (begins_text before text && row_count before == limits.rows) (nat_lt limits.text (bytes + 0 + length text)) (nat_lt limits.text (bytes + all.bytes + length text))
+    let test = judged_test limits.text bytes all.bytes (cond (depth before == 0) 0 (length text)) (length text) (length text) j.given values j.small j.capped j.larger
+    (kept_bytes (depth before == 0) (length text)) (omega arith) (inr refl) in
+    text_same (depth before == 0 && not (list_all is_white text)) (begins_text before text && row_count before == limits.rows) (nat_lt limits.text (bytes + 0 + length text))
+    (nat_lt limits.text (bytes + all.bytes + length text))
     kind.TextOutside kind.TooManyNodes kind.TooMuchText h
     ∙ ap (λ b. cond b (Some kind.TooMuchText) None) test ∙ only_text limits all values (IsIn.count (i refl))
 own_judged limits before (Instruction target value) all values h j i =
     let bytes = value_bytes before in
     let test = judged_test limits.text bytes all.bytes (length value) 0 (length value) j.given values j.small j.capped j.larger (omega arith) (omega arith) (inl refl) in
-    instruction_same (row_count before == limits.rows) (nat_lt limits.names 0) (nat_lt limits.text (bytes + 0 + length value)) (nat_lt limits.names all.count) (nat_lt limits.text (bytes + all.bytes + length value))
+    instruction_same (row_count before == limits.rows) (nat_lt limits.names 0) (nat_lt limits.text (bytes + 0 + length value)) (nat_lt limits.names all.count)
+    (nat_lt limits.text (bytes + all.bytes + length value))
     kind.TooManyNodes kind.TooManyNames kind.TooMuchText h
     ∙ ap (λ b. cond (nat_lt limits.names all.count) (Some kind.TooManyNames) (cond b (Some kind.TooMuchText) None)) test
 own_judged limits before (Comment text) all values h j i =
     let bytes = value_bytes before in
     let test = judged_test limits.text bytes all.bytes (length text) 0 (length text) j.given values j.small j.capped j.larger (omega arith) (omega arith) (inl refl) in
-    text_same false (row_count before == limits.rows) (nat_lt limits.text (bytes + 0 + length text)) (nat_lt limits.text (bytes + all.bytes + length text)) kind.TextOutside kind.TooManyNodes kind.TooMuchText h
+    text_same false (row_count before == limits.rows) (nat_lt limits.text (bytes + 0 + length text)) (nat_lt limits.text
+    (bytes + all.bytes + length text)) kind.TextOutside kind.TooManyNodes kind.TooMuchText h
     ∙ ap (λ b. cond b (Some kind.TooMuchText) None) test ∙ only_text limits all values (IsIn.count (i refl))
 own_judged limits before Passed all values h j i = h ∙ sym (quiet_line limits (value_bytes before) j.given values all j.small j.capped j.larger (i refl))
 
@@ -219,7 +234,8 @@ kind_few it = refl
 few_kind : (limits : Limits) (all : Names) (it : FlawKind) → all.count ≤ limits.names → Some it ≡ Some (kind_with (nat_lt limits.names all.count) it)
 few_kind limits all it h = sym (ap (λ b. Some (kind_with b it)) (not_over limits.names all.count h) ∙ ap (λ k. Some k) (kind_few it))
 
-attribute_flaw : (a b c d e f : Bool) (one two three four it : FlawKind) → (e ≡ true → f ≡ true) → cond a (Some one) (cond b (Some two) (cond c None (cond d (Some three) (cond e (Some four) None)))) ≡ Some it
+attribute_flaw : (a b c d e f : Bool) (one two three four it : FlawKind) → (e ≡ true → f ≡ true)
+    → cond a (Some one) (cond b (Some two) (cond c None (cond d (Some three) (cond e (Some four) None)))) ≡ Some it
     → cond a (Some one) (cond b (Some two) (cond c None (cond d (Some three) (cond f (Some four) None)))) ≡ Some it
 attribute_flaw true b c d e f one two three four it g h = h
 attribute_flaw false true c d e f one two three four it g h = h
@@ -228,7 +244,8 @@ attribute_flaw false false false true e f one two three four it g h = h
 attribute_flaw false false false false true f one two three four it g h = ap (λ x. cond x (Some four) None) (g refl) ∙ h
 attribute_flaw false false false false false f one two three four it g h = absurd (cc)
 
-text_flaw : (a b e f : Bool) (one two three it : FlawKind) → (e ≡ true → f ≡ true) → cond a (Some one) (cond b (Some two) (cond e (Some three) None)) ≡ Some it → cond a (Some one) (cond b (Some two) (cond f (Some three) None)) ≡ Some it
+text_flaw : (a b e f : Bool) (one two three it : FlawKind) → (e ≡ true → f ≡ true) → cond a (Some one) (cond b (Some two) (cond e (Some three) None)) ≡ Some it
+    → cond a (Some one) (cond b (Some two) (cond f (Some three) None)) ≡ Some it
 text_flaw true b e f one two three it g h = h
 text_flaw false true e f one two three it g h = h
 text_flaw false false true f one two three it g h = ap (λ x. cond x (Some three) None) (g refl) ∙ h
@@ -237,7 +254,8 @@ text_flaw false false false f one two three it g h = absurd (cc)
 some_kind : (a b : FlawKind) → Some a ≡ Some b → a ≡ b
 some_kind a b h = cc
 
-instruction_flaw : (a b e f g : Bool) (it : FlawKind) → b ≡ false → (e ≡ true → g ≡ true) → cond a (Some kind.TooManyNodes) (cond b (Some kind.TooManyNames) (cond e (Some kind.TooMuchText) None)) ≡ Some it
+instruction_flaw : (a b e f g : Bool) (it : FlawKind) → b ≡ false → (e ≡ true → g ≡ true)
+    → cond a (Some kind.TooManyNodes) (cond b (Some kind.TooManyNames) (cond e (Some kind.TooMuchText) None)) ≡ Some it
     → cond a (Some kind.TooManyNodes) (cond f (Some kind.TooManyNames) (cond g (Some kind.TooMuchText) None)) ≡ Some (kind_with f it)
 instruction_flaw true b e f g it n more h = ap (λ k. Some (kind_with f k)) (some_kind kind.TooManyNodes it h)
 instruction_flaw false true e f g it n more h = absurd (false≢true (sym n))
@@ -256,15 +274,18 @@ own_refused : (limits : Limits) (before : List Line) (line : Line) (all : Names)
 own_refused limits before (Start name) all it h few = h ∙ few_kind limits all it (few refl)
 own_refused limits before (End name) all it h few = h ∙ few_kind limits all it (few refl)
 own_refused limits before (Attr name value) all it h few =
-    attribute_flaw (not (is_some (pending_start before))) (is_full (pending_start before)) (is_declaration name) (row_count before == limits.rows) (nat_lt limits.text (value_bytes before + 0 + length value)) (nat_lt limits.text (value_bytes before + all.bytes + length value))
+    attribute_flaw (not (is_some (pending_start before))) (is_full (pending_start before)) (is_declaration name) (row_count before == limits.rows)
+    (nat_lt limits.text (value_bytes before + 0 + length value)) (nat_lt limits.text (value_bytes before + all.bytes + length value))
     kind.AttrPlace kind.TooManyAttrs kind.TooManyNodes kind.TooMuchText it (more_text limits.text (value_bytes before) all.bytes (length value)) h
     ∙ few_kind limits all it (few refl)
 own_refused limits before (Text text) all it h few =
-    text_flaw (depth before == 0 && not (list_all is_white text)) (begins_text before text && row_count before == limits.rows) (nat_lt limits.text (value_bytes before + 0 + length text)) (nat_lt limits.text (value_bytes before + all.bytes + length text))
+    text_flaw (depth before == 0 && not (list_all is_white text)) (begins_text before text && row_count before == limits.rows) (nat_lt limits.text (value_bytes before + 0 + length text))
+    (nat_lt limits.text (value_bytes before + all.bytes + length text))
     kind.TextOutside kind.TooManyNodes kind.TooMuchText it (more_text limits.text (value_bytes before) all.bytes (length text)) h
     ∙ few_kind limits all it (few refl)
 own_refused limits before (Instruction target value) all it h few =
-    instruction_flaw (row_count before == limits.rows) (nat_lt limits.names 0) (nat_lt limits.text (value_bytes before + 0 + length value)) (nat_lt limits.names all.count) (nat_lt limits.text (value_bytes before + all.bytes + length value)) it
+    instruction_flaw (row_count before == limits.rows) (nat_lt limits.names 0) (nat_lt limits.text (value_bytes before + 0 + length value)) (nat_lt limits.names all.count)
+    (nat_lt limits.text (value_bytes before + all.bytes + length value)) it
     (not_over limits.names 0 (omega arith)) (more_text limits.text (value_bytes before) all.bytes (length value)) h
 own_refused limits before (Comment text) all it h few =
     text_flaw false (row_count before == limits.rows) (nat_lt limits.text (value_bytes before + 0 + length text)) (nat_lt limits.text (value_bytes before + all.bytes + length text))
@@ -273,25 +294,31 @@ own_refused limits before (Comment text) all it h few =
 own_refused limits before Passed all it h few = h ∙ few_kind limits all it (few refl)
 
 -- the names after the line are within the limits, where those after the start that it completes are
-all_in : (limits : Limits) (before : List Line) (line : Line) → AreFlawless limits before → start_flaw (bindings 0 before) (depth before) (completed_start before line) ≡ None → names_at limits false before (completed_start before line) ≡ None
+all_in : (limits : Limits) (before : List Line) (line : Line) → AreFlawless limits before → start_flaw (bindings 0 before) (depth before) (completed_start before line) ≡ None
+    → names_at limits false before (completed_start before line) ≡ None
     → is_instruction line ≡ false → IsIn limits (value_bytes before) (names_of false (events_to (line ∷ before)))
 all_in limits before line f a b plain =
     let good : completed_flaw limits false before (completed_start before line) ≡ None = ap₂ or_kind a b in
     subst (IsIn limits (value_bytes before)) (sym (names_kept before line plain)) (completed_in limits before (completed_start before line) good (within limits before f))
 
 -- the flaw of a line that has none, names aside
-pub line_good : (limits : Limits) (before : List Line) (line : Line) (events : List Event) (values : ℕ) → AreFlawless limits before → line_flaw limits true before line ≡ None → events ≡ line_events before line → IsJudged limits before line values
-    → line_flaw limits false before line ≡ or_flaw (started_flaw limits (rows_of (steps_of_events (events_to before))) events (value_bytes before)) (at_line (length before + 1) (names_flaw limits (names_of false (events_to (line ∷ before))) values) None)
+pub line_good : (limits : Limits) (before : List Line) (line : Line) (events : List Event) (values : ℕ) → AreFlawless limits before → line_flaw limits true before line ≡ None
+    → events ≡ line_events before line → IsJudged limits before line values
+    → line_flaw limits false before line ≡ or_flaw (started_flaw limits (rows_of (steps_of_events (events_to before))) events (value_bytes before))
+    (at_line (length before + 1) (names_flaw limits (names_of false (events_to (line ∷ before))) values) None)
 line_good limits before line events values f h e j =
     let start = completed_start before line in
     let all = names_of false (events_to (line ∷ before)) in
-    let parts = no_first (start_line start) (start_flaw (bindings 0 before) (depth before) start) _ (sym (free_pieces limits before start (own_flaw limits free_names before line) (omega (arith, IsIn.bytes (within limits before f)))) ∙ h) in
+    let parts = no_first (start_line start) (start_flaw (bindings 0 before) (depth before) start) _ (sym
+    (free_pieces limits before start (own_flaw limits free_names before line) (omega (arith, IsIn.bytes (within limits before f)))) ∙ h) in
     let own = at_line_none (length before + 1) (own_flaw limits free_names before line) parts.1 in
     let first = started_is limits before start events (subst (λ (all : List Event). IsFirst all (completed before start) start) (sym e) (line_first before line)) in
     pieces limits false before start (own_flaw limits all before line)
-    ∙ ap (λ k. at_line (start_line start) k (or_flaw (at_line (start_line start) (names_at limits false before start) None) (at_line (length before + 1) (own_flaw limits all before line) None))) parts.0
+    ∙ ap (λ k. at_line (start_line start) k (or_flaw (at_line (start_line start) (names_at limits false before start) None)
+    (at_line (length before + 1) (own_flaw limits all before line) None))) parts.0
     ∙ or_later (at_line (start_line start) (names_at limits false before start) None) _ _
-    (λ quiet. ap (λ k. at_line (length before + 1) k None) (own_judged limits before line all values own j (all_in limits before line f parts.0 (at_line_none (start_line start) (names_at limits false before start) quiet))))
+    (λ quiet. ap (λ k. at_line (length before + 1) k None) (own_judged limits before line all values own j
+    (all_in limits before line f parts.0 (at_line_none (start_line start) (names_at limits false before start) quiet))))
     ∙ ap (λ flaw. or_flaw flaw (at_line (length before + 1) (names_flaw limits all values) None)) (sym first)
 
 -- the flaw of a start is not one of text or names
@@ -300,13 +327,15 @@ two_kinds true b it many h = ap (kind_with many) (sym (some_kind kind.UnboundPre
 two_kinds false true it many h = ap (kind_with many) (sym (some_kind kind.DuplicateAttr it h)) ∙ some_kind kind.DuplicateAttr it h
 two_kinds false false it many h = absurd (cc)
 
-start_kinds : (a b c : Bool) (it : FlawKind) (many : Bool) → cond a (Some kind.UnboundPrefix) (cond b (Some kind.UnboundPrefix) (cond c (Some kind.DuplicateAttr) None)) ≡ Some it → kind_with many it ≡ it
+start_kinds : (a b c : Bool) (it : FlawKind) (many : Bool) → cond a (Some kind.UnboundPrefix) (cond b (Some kind.UnboundPrefix) (cond c (Some kind.DuplicateAttr) None)) ≡ Some it
+    → kind_with many it ≡ it
 start_kinds true b c it many h = ap (kind_with many) (sym (some_kind kind.UnboundPrefix it h)) ∙ some_kind kind.UnboundPrefix it h
 start_kinds false b c it many h = two_kinds b c it many h
 
 start_kind : (bound : List Binding) (deep : ℕ) (start : Option PendingStart) (it : FlawKind) (many : Bool) → start_flaw bound deep start ≡ Some it → kind_with many it ≡ it
 start_kind bound deep None it many h = absurd (cc)
-start_kind bound deep (Some start) it many h = start_kinds (is_unbound bound (prefix_of start.name)) (list_any (attribute_unbound bound) start.attributes) (repeats (attribute_rows bound (deep + 1) start.attributes)) it many h
+start_kind bound deep (Some start) it many h = start_kinds (is_unbound bound (prefix_of start.name)) (list_any (attribute_unbound bound) start.attributes)
+    (repeats (attribute_rows bound (deep + 1) start.attributes)) it many h
 
 some_flaw : (a b : Flaw) → Some a ≡ Some b → a ≡ b
 some_flaw a b h = cc
@@ -324,10 +353,12 @@ handed limits before start kinds fits is =
 -- the flaw at which the checker stopped, and that with the names counted
 module _ (limits : Limits) (before : List Line) (start : Option PendingStart) (fits : value_bytes before ≤ limits.text) (flaw : Flaw) (given : List Event) where
   -- the start has a flaw of its own
-  start_refused : (free counted : Option FlawKind) (it : FlawKind) (many : Bool) → start_flaw (bindings 0 before) (depth before) start ≡ Some it → in_order limits true before start free ≡ Some flaw → given ≡ sound_node limits before start
+  start_refused : (free counted : Option FlawKind) (it : FlawKind) (many : Bool) → start_flaw (bindings 0 before) (depth before) start ≡ Some it → in_order limits true before start free ≡ Some flaw
+      → given ≡ sound_node limits before start
       → in_order limits false before start counted ≡ or_flaw (started_flaw limits (rows_of (steps_of_events (events_to before))) given (value_bytes before)) (Some (flaw_with many flaw))
   start_refused free counted it many is h g =
-      let at : record { line = start_line start; kind = it } ≡ flaw = some_flaw (record { line = start_line start; kind = it }) flaw (sym (free_pieces limits before start free fits ∙ ap (λ k. at_line (start_line start) k (at_line (length before + 1) free None)) is) ∙ h) in
+      let at : record { line = start_line start; kind = it } ≡ flaw = some_flaw (record { line = start_line start; kind = it }) flaw
+      (sym (free_pieces limits before start free fits ∙ ap (λ k. at_line (start_line start) k (at_line (length before + 1) free None)) is) ∙ h) in
       let none : given ≡ [] = g ∙ handed limits before start (Some it) fits is in
       pieces limits false before start counted
       ∙ ap (λ k. at_line (start_line start) k (or_flaw (at_line (start_line start) (names_at limits false before start) None) (at_line (length before + 1) counted None))) is
@@ -336,10 +367,12 @@ module _ (limits : Limits) (before : List Line) (start : Option PendingStart) (f
       ∙ ap (λ (events : List Event). or_flaw (started_flaw limits (rows_of (steps_of_events (events_to before))) events (value_bytes before)) (Some (flaw_with many flaw))) (sym none)
 
   -- it has none, and the line or the input's end has one
-  own_at : (free : Option FlawKind) → start_flaw (bindings 0 before) (depth before) start ≡ None → in_order limits true before start free ≡ Some flaw → at_line (length before + 1) free None ≡ Some flaw
+  own_at : (free : Option FlawKind) → start_flaw (bindings 0 before) (depth before) start ≡ None → in_order limits true before start free ≡ Some flaw
+      → at_line (length before + 1) free None ≡ Some flaw
   own_at free is h = sym (free_pieces limits before start free fits ∙ ap (λ k. at_line (start_line start) k (at_line (length before + 1) free None)) is) ∙ h
 
-  later_refused : (free counted : Option FlawKind) (many : Bool) → start_flaw (bindings 0 before) (depth before) start ≡ None → in_order limits true before start free ≡ Some flaw → given ≡ sound_node limits before start
+  later_refused : (free counted : Option FlawKind) (many : Bool) → start_flaw (bindings 0 before) (depth before) start ≡ None → in_order limits true before start free ≡ Some flaw
+      → given ≡ sound_node limits before start
       → (names_at limits false before start ≡ None → at_line (length before + 1) counted None ≡ Some (flaw_with many flaw))
       → in_order limits false before start counted ≡ or_flaw (started_flaw limits (rows_of (steps_of_events (events_to before))) given (value_bytes before)) (Some (flaw_with many flaw))
   later_refused free counted many is h g own =
@@ -347,7 +380,8 @@ module _ (limits : Limits) (before : List Line) (start : Option PendingStart) (f
       let first = started_is limits before start given (subst (λ (events : List Event). IsFirst events (completed before start) start) (sym node) (node_first before start)) in
       pieces limits false before start counted
       ∙ ap (λ k. at_line (start_line start) k (or_flaw (at_line (start_line start) (names_at limits false before start) None) (at_line (length before + 1) counted None))) is
-      ∙ or_later (at_line (start_line start) (names_at limits false before start) None) (at_line (length before + 1) counted None) (Some (flaw_with many flaw)) (λ quiet. own (at_line_none (start_line start) (names_at limits false before start) quiet))
+      ∙ or_later (at_line (start_line start) (names_at limits false before start) None) (at_line (length before + 1) counted None) (Some (flaw_with many flaw))
+      (λ quiet. own (at_line_none (start_line start) (names_at limits false before start) quiet))
       ∙ ap (λ first. or_flaw first (Some (flaw_with many flaw))) (sym first)
 
 at_line_some : (line : ℕ) (a : Option FlawKind) (flaw : Flaw) → at_line line a None ≡ Some flaw → (it : FlawKind) × (a ≡ Some it) × (record { line = line; kind = it } ≡ flaw)
@@ -359,7 +393,8 @@ option_cases None = inl refl
 option_cases (Some x) = inr (x, refl)
 
 -- the flaw of a line that has one, names aside
-pub line_refused : (limits : Limits) (before : List Line) (line : Line) (flaw : Flaw) (given : List Event) (own : NewNames) (error : BuildError) → AreFlawless limits before → line_flaw limits true before line ≡ Some flaw → given ≡ sound_node limits before (completed_start before line)
+pub line_refused : (limits : Limits) (before : List Line) (line : Line) (flaw : Flaw) (given : List Event) (own : NewNames) (error : BuildError) → AreFlawless limits before
+    → line_flaw limits true before line ≡ Some flaw → given ≡ sound_node limits before (completed_start before line)
     → AddsNames (rows_of (steps_of_events (events_to before))) (own_rows line) own
     → ((all : Names) → Adds (table_names (rows_of (steps_of_events (events_to before)) ++ element_rows given)) own all
     → IsFlawOf (or_flaw (started_flaw limits (rows_of (steps_of_events (events_to before))) given (value_bytes before)) (Some (flaw_with (nat_lt limits.names all.count) flaw))) error)
@@ -374,8 +409,10 @@ line_refused limits before line flaw given own error f h g added answer =
       | inr p ↦
           let none : given ≡ [] = g ∙ handed limits before start (Some p.0) fits p.1 in
           let after = table_names (rows ++ own_rows line) in
-          let adds : Adds (table_names (rows ++ element_rows given)) own after = subst (λ (more : List Row). Adds (table_names more) own after) (sym (append-nil rows) ∙ ap (λ (events : List Event). rows ++ element_rows events) (sym none)) (adds_of rows (own_rows line) own added) in
-          subst (λ it. IsFlawOf it error) (sym (start_refused limits before start fits flaw given free (own_flaw limits all before line) p.0 (nat_lt limits.names after.count) p.1 h g)) (answer after adds)
+          let adds : Adds (table_names (rows ++ element_rows given)) own after = subst (λ (more : List Row). Adds (table_names more) own after)
+          (sym (append-nil rows) ∙ ap (λ (events : List Event). rows ++ element_rows events) (sym none)) (adds_of rows (own_rows line) own added) in
+          subst (λ it. IsFlawOf it error) (sym (start_refused limits before start fits flaw given free (own_flaw limits all before line) p.0 (nat_lt limits.names after.count) p.1 h g))
+          (answer after adds)
       | inl is ↦
           let node : given ≡ completed before start = g ∙ handed limits before start None fits is in
           let first : element_rows given ≡ node_rows (completed before start) = ap element_rows node ∙ IsFirst.rows (node_first before start) in
@@ -389,7 +426,8 @@ line_refused limits before line flaw given own error f h g added answer =
     ]
 
 -- likewise the input's end, which adds no name
-pub end_refused : (limits : Limits) (before : List Line) (flaw : Flaw) (given : List Event) → AreFlawless limits before → end_flaw limits true before ≡ Some flaw → given ≡ sound_node limits before (pending_start before)
+pub end_refused : (limits : Limits) (before : List Line) (flaw : Flaw) (given : List Event) → AreFlawless limits before → end_flaw limits true before ≡ Some flaw
+    → given ≡ sound_node limits before (pending_start before)
     → end_flaw limits false before ≡ or_flaw (started_flaw limits (rows_of (steps_of_events (events_to before))) given (value_bytes before)) (Some flaw)
 end_refused limits before flaw given f h g =
     let start = pending_start before in
@@ -447,7 +485,8 @@ end_good limits before f h =
     ∙ sym (ap (λ start. in_order limits true before start (own_end_flaw before)) quiet.1) ∙ h
 
 -- the same at a table's steps, and at what a builder counts
-pub line_good_at : (limits : Limits) (before : List Line) (line : Line) (events : List Event) (steps : List Step) (text lines values : ℕ) → steps ≡ steps_of_events (events_to before) → text ≡ value_bytes before → lines ≡ length before
+pub line_good_at : (limits : Limits) (before : List Line) (line : Line) (events : List Event) (steps : List Step) (text lines values : ℕ) → steps ≡ steps_of_events (events_to before)
+    → text ≡ value_bytes before → lines ≡ length before
     → AreFlawless limits before → line_flaw limits true before line ≡ None → events ≡ line_events before line → IsJudged limits before line values
     → line_flaw limits false before line ≡ or_flaw (started_flaw limits (rows_of steps) events text) (at_line (lines + 1) (names_flaw limits (names_of false (events_to (line ∷ before))) values) None)
 line_good_at limits before line events steps text lines values is bytes count f h e j =
@@ -457,9 +496,11 @@ line_good_at limits before line events steps text lines values is bytes count f 
     ∙ ap (λ (n : ℕ). or_flaw (started_flaw limits (rows_of (steps_of_events (events_to before))) events n) (at_line (lines + 1) own None)) (sym bytes)
     ∙ ap (λ (all : List Step). or_flaw (started_flaw limits (rows_of all) events text) (at_line (lines + 1) own None)) (sym is)
 
-pub line_refused_at : (limits : Limits) (before : List Line) (line : Line) (flaw : Flaw) (given : List Event) (own : NewNames) (error : BuildError) (steps : List Step) (text : ℕ) → steps ≡ steps_of_events (events_to before) → text ≡ value_bytes before
+pub line_refused_at : (limits : Limits) (before : List Line) (line : Line) (flaw : Flaw) (given : List Event) (own : NewNames) (error : BuildError) (steps : List Step) (text : ℕ)
+    → steps ≡ steps_of_events (events_to before) → text ≡ value_bytes before
     → AreFlawless limits before → line_flaw limits true before line ≡ Some flaw → given ≡ sound_node limits before (completed_start before line) → AddsNames (rows_of steps) (own_rows line) own
-    → ((all : Names) → Adds (table_names (rows_of steps ++ element_rows given)) own all → IsFlawOf (or_flaw (started_flaw limits (rows_of steps) given text) (Some (flaw_with (nat_lt limits.names all.count) flaw))) error)
+    → ((all : Names) → Adds (table_names (rows_of steps ++ element_rows given)) own all
+    → IsFlawOf (or_flaw (started_flaw limits (rows_of steps) given text) (Some (flaw_with (nat_lt limits.names all.count) flaw))) error)
     → IsFlawOf (line_flaw limits false before line) error
 line_refused_at limits before line flaw given own error steps text is bytes f h g added answer =
     line_refused limits before line flaw given own error f h g (subst (λ (all : List Step). AddsNames (rows_of all) (own_rows line) own) is added)
@@ -482,7 +523,8 @@ min_capped n = elim (cases_lt n 18446744073709551616) [
   | inr h ↦ omega arith ∙ sym (ap (λ b. cond b n 18446744073709551615) (not_over n 18446744073709551616 h))
 ]
 
-pub judged_by : (limits : Limits) (before : List Line) (line : Line) (text data_bytes given after values : ℕ) → limits.text < 4294967296 → text ≡ value_bytes before → data_bytes ≡ data_length line → given ≡ min (text + data_bytes) 18446744073709551615
+pub judged_by : (limits : Limits) (before : List Line) (line : Line) (text data_bytes given after values : ℕ) → limits.text < 4294967296 → text ≡ value_bytes before → data_bytes ≡ data_length line
+    → given ≡ min (text + data_bytes) 18446744073709551615
     → after ≡ value_bytes (line ∷ before) → values ≡ cond (nat_lt after given) given after → IsJudged limits before line values
 judged_by limits before line text data_bytes given after values small t d g a v = record {
   given = given;

@@ -177,11 +177,12 @@ impl NamePool {
     }
 }
 
+// The local name first: where it is new, no byte of a long URI is read.
 fn find_key(texts: &TextNumbers, kind: Kind, uri: &[u8], local: &[u8]) -> Option<TypeKey>
     ensures { (key : TypeKey) → (result ≡ Some key) ↔ IsKey texts.now key (record { kind = kind; uri = uri.now; local = local.now }) }
 {
-    let uri = texts.find(uri)?;
     let local = texts.find(local)?;
+    let uri = texts.find(uri)?;
     let kind = kind.number();
     Some(TypeKey { kind, uri, local })
 }

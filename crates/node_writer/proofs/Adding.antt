@@ -1,5 +1,6 @@
 -- Names that are new after those of a table and of more rows.
-use Rattle.std.proofs.Common.{◌≡◌, ℕ, ◌+◌, Bool, true, false, ◌&&◌, ◌||◌, not, cond, List, [], ◌∷◌, ◌++◌, length, refl, ap, ap₂, sym, ◌∙◌, subst, arith, inl, inr, length-append, append_assoc, append-nil}
+use Rattle.std.proofs.Common.{◌≡◌, ℕ, ◌+◌, Bool, true, false, ◌&&◌, ◌||◌, not, cond, List, [], ◌∷◌}
+use Rattle.std.proofs.Common.{◌++◌, length, refl, ap, ap₂, sym, ◌∙◌, subst, arith, inl, inr, length-append, append_assoc, append-nil}
 use Rattle.std.specs.List.{sum_by}
 use Rattle.std.specs.Str.{bytes_eq}
 use Rattle.std.proofs.lemmas.Bool.{cases_Bool, false≢true}
@@ -9,7 +10,8 @@ use Rattle.doc_model.specs.declared.row.Row.{Row}
 use Rattle.doc_model.specs.Legible.{is_empty}
 use Rattle.name_pool.specs.Names.{Name}
 use Rattle.node_writer.specs.declared.new_names.NewNames.{NewNames}
-use Rattle.node_writer.specs.Taken.{is_same, is_name_of, is_prefix_of, has_name, name_of_row, name_added, names_with, names_from, names_of, prefixes_with, prefixes_from, prefixes_of, name_bytes, prefix_bytes, name_count}
+use Rattle.node_writer.specs.Taken.{is_same, is_name_of, is_prefix_of, has_name, name_of_row, name_added, names_with}
+use Rattle.node_writer.specs.Taken.{names_from, names_of, prefixes_with, prefixes_from, prefixes_of, name_bytes, prefix_bytes, name_count}
 use Rattle.node_writer.specs.New.{names_bytes, capped, has_new_name, has_new_prefix, has_type_of, has_prefix_of, AddsNames}
 use Rattle.node_writer.proofs.Names.{same_is}
 use Rattle.node_writer.proofs.Taken.{names_from-append, prefixes_from-append, names_of-push, prefixes_of-push}
@@ -43,13 +45,15 @@ name_in_added name other names = elim (cases_Bool (is_name_of other names)) [
 named_alike : (row other : Row) → has_name row.kind ≡ true → is_same (name_of_row row) (name_of_row other) ≡ true → has_name other.kind ≡ true
 named_alike row other h s = ap (λ (n : Name). has_name n.kind) (sym (same_is (name_of_row row) (name_of_row other) s)) ∙ h
 
-name_in_with : (row other : Row) (names : List Name) → has_name row.kind ≡ true → is_name_of (name_of_row row) (names_with names other) ≡ (is_name_of (name_of_row row) names || is_same (name_of_row row) (name_of_row other))
+name_in_with : (row other : Row) (names : List Name) → has_name row.kind ≡ true
+    → is_name_of (name_of_row row) (names_with names other) ≡ (is_name_of (name_of_row row) names || is_same (name_of_row row) (name_of_row other))
 name_in_with row other names h = elim (cases_Bool (has_name other.kind)) [
   | inl e ↦ rw e (name_in_added (name_of_row row) (name_of_row other) names)
   | inr e ↦ rw e (or_follows (is_name_of (name_of_row row) names) (is_same (name_of_row row) (name_of_row other)) (λ s. absurd (false≢true (sym e ∙ named_alike row other h s))))
 ]
 
-name_in_from : (row : Row) (names : List Name) (more : List Row) → has_name row.kind ≡ true → is_name_of (name_of_row row) (names_from names more) ≡ (is_name_of (name_of_row row) names || has_type_of row more)
+name_in_from : (row : Row) (names : List Name) (more : List Row) → has_name row.kind ≡ true
+    → is_name_of (name_of_row row) (names_from names more) ≡ (is_name_of (name_of_row row) names || has_type_of row more)
 name_in_from row names [] h = sym (or_false (is_name_of (name_of_row row) names))
 name_in_from row names (other ∷ more) h =
     name_in_from row (names_with names other) more h
@@ -62,7 +66,8 @@ neither false b = refl
 
 name_new_after : (before more : List Row) (row : Row) → (has_new_name before row && not (has_type_of row more)) ≡ has_new_name (before ++ more) row
 name_new_after before more row = elim (cases_Bool (has_name row.kind)) [
-  | inl e ↦ rw e (neither (is_name_of (name_of_row row) (names_of before)) (has_type_of row more) ∙ ap not (sym (name_in_from row (names_of before) more e)) ∙ ap (λ names. not (is_name_of (name_of_row row) names)) (sym (names_from-append [] before more)))
+  | inl e ↦ rw e (neither (is_name_of (name_of_row row) (names_of before)) (has_type_of row more) ∙ ap not (sym (name_in_from row (names_of before) more e))
+      ∙ ap (λ names. not (is_name_of (name_of_row row) names)) (sym (names_from-append [] before more)))
   | inr e ↦ rw e refl
 ]
 
@@ -72,20 +77,24 @@ bytes_same a b h = (bytes_eq-Decides a b).0 h
 
 prefix_pushed : (prefix other : List ℕ) (prefixes : List (List ℕ)) → is_prefix_of prefix (prefixes ++ other ∷ []) ≡ (is_prefix_of prefix prefixes || bytes_eq prefix other)
 prefix_pushed prefix other [] = or_false (bytes_eq prefix other)
-prefix_pushed prefix other (one ∷ prefixes) = ap (λ b. bytes_eq prefix one || b) (prefix_pushed prefix other prefixes) ∙ sym (or_assoc (bytes_eq prefix one) (is_prefix_of prefix prefixes) (bytes_eq prefix other))
+prefix_pushed prefix other (one ∷ prefixes) = ap (λ b. bytes_eq prefix one || b) (prefix_pushed prefix other prefixes)
+    ∙ sym (or_assoc (bytes_eq prefix one) (is_prefix_of prefix prefixes) (bytes_eq prefix other))
 
-empty_or_there : (prefix other : List ℕ) (prefixes : List (List ℕ)) → is_empty prefix ≡ false → (is_empty other || is_prefix_of other prefixes) ≡ true → prefix ≡ other → is_prefix_of prefix prefixes ≡ true
+empty_or_there : (prefix other : List ℕ) (prefixes : List (List ℕ)) → is_empty prefix ≡ false → (is_empty other || is_prefix_of other prefixes) ≡ true → prefix ≡ other
+    → is_prefix_of prefix prefixes ≡ true
 empty_or_there prefix other prefixes full there same =
     subst (λ (p : List ℕ). is_prefix_of p prefixes ≡ true) (sym same)
     (ap (λ b. b || is_prefix_of other prefixes) (sym (ap is_empty (sym same) ∙ full)) ∙ there)
 
-prefix_in_with : (row other : Row) (prefixes : List (List ℕ)) → is_empty row.prefix ≡ false → is_prefix_of row.prefix (prefixes_with prefixes other) ≡ (is_prefix_of row.prefix prefixes || bytes_eq row.prefix other.prefix)
+prefix_in_with : (row other : Row) (prefixes : List (List ℕ)) → is_empty row.prefix ≡ false
+    → is_prefix_of row.prefix (prefixes_with prefixes other) ≡ (is_prefix_of row.prefix prefixes || bytes_eq row.prefix other.prefix)
 prefix_in_with row other prefixes h = elim (cases_Bool (is_empty other.prefix || is_prefix_of other.prefix prefixes)) [
   | inl e ↦ rw e (or_follows (is_prefix_of row.prefix prefixes) (bytes_eq row.prefix other.prefix) (λ s. empty_or_there row.prefix other.prefix prefixes h e (bytes_same row.prefix other.prefix s)))
   | inr e ↦ rw e (prefix_pushed row.prefix other.prefix prefixes)
 ]
 
-prefix_in_from : (row : Row) (prefixes : List (List ℕ)) (more : List Row) → is_empty row.prefix ≡ false → is_prefix_of row.prefix (prefixes_from prefixes more) ≡ (is_prefix_of row.prefix prefixes || has_prefix_of row more)
+prefix_in_from : (row : Row) (prefixes : List (List ℕ)) (more : List Row) → is_empty row.prefix ≡ false
+    → is_prefix_of row.prefix (prefixes_from prefixes more) ≡ (is_prefix_of row.prefix prefixes || has_prefix_of row more)
 prefix_in_from row prefixes [] h = sym (or_false (is_prefix_of row.prefix prefixes))
 prefix_in_from row prefixes (other ∷ more) h =
     prefix_in_from row (prefixes_with prefixes other) more h
@@ -95,7 +104,8 @@ prefix_in_from row prefixes (other ∷ more) h =
 prefix_new_after : (before more : List Row) (row : Row) → (has_new_prefix before row && not (has_prefix_of row more)) ≡ has_new_prefix (before ++ more) row
 prefix_new_after before more row = elim (cases_Bool (is_empty row.prefix)) [
   | inl e ↦ rw e refl
-  | inr e ↦ rw e (neither (is_prefix_of row.prefix (prefixes_of before)) (has_prefix_of row more) ∙ ap not (sym (prefix_in_from row (prefixes_of before) more e)) ∙ ap (λ prefixes. not (is_prefix_of row.prefix prefixes)) (sym (prefixes_from-append [] before more)))
+  | inr e ↦ rw e (neither (is_prefix_of row.prefix (prefixes_of before)) (has_prefix_of row more) ∙ ap not (sym (prefix_in_from row (prefixes_of before) more e))
+      ∙ ap (λ prefixes. not (is_prefix_of row.prefix prefixes)) (sym (prefixes_from-append [] before more)))
 ]
 
 -- what one more row adds to a sum over names, and over prefixes
@@ -162,8 +172,10 @@ adds_more before more row old new name prefix adds n p counts =
     let all = before ++ more in
     let a : length (names_of (all ++ row ∷ [])) ≡ length (names_of all) + cond name 1 0 = name_length all row ∙ ap (λ b. length (names_of all) + cond b 1 0) (sym n) in
     let b : length (prefixes_of (all ++ row ∷ [])) ≡ length (prefixes_of all) + cond prefix 1 0 = prefix_length all row ∙ ap (λ b. length (prefixes_of all) + cond b 1 0) (sym p) in
-    let c : name_bytes (names_of (all ++ row ∷ [])) ≡ name_bytes (names_of all) + cond name (length row.uri + length row.local) 0 = name_sum (λ (it : Name). length it.uri + length it.local) all row ∙ ap (λ b. name_bytes (names_of all) + cond b (length row.uri + length row.local) 0) (sym n) in
-    let d : prefix_bytes (prefixes_of (all ++ row ∷ [])) ≡ prefix_bytes (prefixes_of all) + cond prefix (length row.prefix) 0 = prefix_sum (λ (it : List ℕ). length it) all row ∙ ap (λ b. prefix_bytes (prefixes_of all) + cond b (length row.prefix) 0) (sym p) in
+    let c : name_bytes (names_of (all ++ row ∷ [])) ≡ name_bytes (names_of all) + cond name (length row.uri + length row.local) 0 = name_sum (λ (it : Name). length it.uri + length it.local) all row
+    ∙ ap (λ b. name_bytes (names_of all) + cond b (length row.uri + length row.local) 0) (sym n) in
+    let d : prefix_bytes (prefixes_of (all ++ row ∷ [])) ≡ prefix_bytes (prefixes_of all) + cond prefix (length row.prefix) 0 = prefix_sum (λ (it : List ℕ). length it) all row
+    ∙ ap (λ b. prefix_bytes (prefixes_of all) + cond b (length row.prefix) 0) (sym p) in
     record {
       count_added = adds.count_added + cond name 1 0 + cond prefix 1 0;
       bytes_added = adds.bytes_added + cond name (length row.uri + length row.local) 0 + cond prefix (length row.prefix) 0;
@@ -188,7 +200,8 @@ name_still_new before more row new there n t h = both new (not there) _ (ap₂ (
 pub name_not_new : (before more : List Row) (row : Row) (new : Bool) → new ≡ has_new_name before row → new ≡ false → new ≡ has_new_name (before ++ more) row
 name_not_new before more row new n h = not_first new (not (has_type_of row more)) _ (ap (λ a. a && not (has_type_of row more)) n ∙ name_new_after before more row) h
 
-pub prefix_still_new : (before more : List Row) (row : Row) (new there : Bool) → new ≡ has_new_prefix before row → there ≡ has_prefix_of row more → new ≡ true → not there ≡ has_new_prefix (before ++ more) row
+pub prefix_still_new : (before more : List Row) (row : Row) (new there : Bool) → new ≡ has_new_prefix before row → there ≡ has_prefix_of row more → new ≡ true
+    → not there ≡ has_new_prefix (before ++ more) row
 prefix_still_new before more row new there n t h = both new (not there) _ (ap₂ (λ a b. a && not b) n t ∙ prefix_new_after before more row) h
 
 pub prefix_not_new : (before more : List Row) (row : Row) (new : Bool) → new ≡ has_new_prefix before row → new ≡ false → new ≡ has_new_prefix (before ++ more) row

@@ -1,5 +1,6 @@
 -- The writer and the table at a Node.
-use Rattle.std.proofs.Common.{◌≡◌, ◌≢◌, ℕ, suc, ◌+◌, ◌-◌, ◌<◌, ◌≤◌, ◌^◌, true, false, ◌&&◌, List, [], ◌∷◌, ◌++◌, length, Option, Some, None, IfSome, take, drop, map, get_or, refl, ap, ap₂, sym, ◌∙◌, subst, arith, append_assoc, append-nil, length-append}
+use Rattle.std.proofs.Common.{◌≡◌, ◌≢◌, ℕ, suc, ◌+◌, ◌-◌, ◌<◌, ◌≤◌, ◌^◌, true, false, ◌&&◌, List, [], ◌∷◌, ◌++◌, length}
+use Rattle.std.proofs.Common.{Option, Some, None, IfSome, take, drop, map, get_or, refl, ap, ap₂, sym, ◌∙◌, subst, arith, append_assoc, append-nil, length-append}
 use Rattle.std.proofs.lemmas.Bool.{and_parts, false≢true}
 use Rattle.std.proofs.lemmas.List.{get_or_at, drop_at, take_all}
 use Rattle.std.proofs.lemmas.List.Sums.{sum_by-append}
@@ -94,15 +95,19 @@ are_of : (n : ℕ) (ps : List RowPlace) → AreLinked (attribute_links n) ps →
 are_of n [] s = tt
 are_of n (p ∷ ps) s = (record { parent = (s.0).parent; prev = (s.0).prev; count = (s.0).count }, are_of n ps s.1)
 
-module _ (w : NodeWriter) (limits : Limits) (cells : Cells) (row : Row) (attributes : List Row) (s : Stands w limits cells) (e : (document_of cells.steps).ended ≡ None) (may : CanJoin (document_of cells.steps).opened row attributes) (room : HasRoom limits (rows_of cells.steps ++ row ∷ attributes)) where
+module _ (w : NodeWriter) (limits : Limits) (cells : Cells) (row : Row) (attributes : List Row) (s : Stands w limits cells) (e : (document_of cells.steps).ended ≡ None)
+    (may : CanJoin (document_of cells.steps).opened row attributes) (room : HasRoom limits (rows_of cells.steps ++ row ∷ attributes)) where
   rows : List Row
   rows = rows_of cells.steps
 
   pub all_fit : RowsFit w.filler limits (row ∷ attributes)
   all_fit =
-      let ne : names_of (rows_of cells.steps ++ row ∷ attributes) ≡ names_from w.filler.pool.names (row ∷ attributes) = names_from-append [] (rows_of cells.steps) (row ∷ attributes) ∙ ap (λ (n : List Name). names_from n (row ∷ attributes)) (sym s.names) in
-      let pe : prefixes_of (rows_of cells.steps ++ row ∷ attributes) ≡ prefixes_from w.filler.pool.prefixes (row ∷ attributes) = prefixes_from-append [] (rows_of cells.steps) (row ∷ attributes) ∙ ap (λ (p : List (List ℕ)). prefixes_from p (row ∷ attributes)) (sym s.prefixes) in
-      let vb : value_bytes (rows_of cells.steps ++ row ∷ attributes) ≡ value_bytes (rows_of cells.steps) + value_bytes (row ∷ attributes) = sum_by-append (λ (r : Row). length r.value) (rows_of cells.steps) (row ∷ attributes) in
+      let ne : names_of (rows_of cells.steps ++ row ∷ attributes) ≡ names_from w.filler.pool.names (row ∷ attributes) = names_from-append [] (rows_of cells.steps) (row ∷ attributes)
+      ∙ ap (λ (n : List Name). names_from n (row ∷ attributes)) (sym s.names) in
+      let pe : prefixes_of (rows_of cells.steps ++ row ∷ attributes) ≡ prefixes_from w.filler.pool.prefixes (row ∷ attributes) = prefixes_from-append [] (rows_of cells.steps) (row ∷ attributes)
+      ∙ ap (λ (p : List (List ℕ)). prefixes_from p (row ∷ attributes)) (sym s.prefixes) in
+      let vb : value_bytes (rows_of cells.steps ++ row ∷ attributes) ≡ value_bytes (rows_of cells.steps) + value_bytes (row ∷ attributes) = sum_by-append (λ (r : Row). length r.value)
+      (rows_of cells.steps) (row ∷ attributes) in
       record {
         rows = omega (arith, room.rows, length-append (rows_of cells.steps) (row ∷ attributes), s.joined, s.filler.rows);
         names = omega (arith, room.names, ap length ne, ap length pe);
@@ -114,7 +119,8 @@ module _ (w : NodeWriter) (limits : Limits) (cells : Cells) (row : Row) (attribu
   row_is_given = row_given (document_of cells.steps).opened row attributes may
 
   pub row_fits : RowsFit w.filler limits (row ∷ [])
-  row_fits = next_fits w.filler w.filler limits cells.columns cells.columns [] (row ∷ []) attributes (attribute_links 0) s.filler all_fit (none_filled w.filler limits cells.columns (attribute_links 0) s.filler)
+  row_fits = next_fits w.filler w.filler limits cells.columns cells.columns [] (row ∷ []) attributes (attribute_links 0) s.filler all_fit
+      (none_filled w.filler limits cells.columns (attribute_links 0) s.filler)
 
   pub count_fits : length attributes < 2 ^ 32
   count_fits = omega (arith, all_fit.rows, s.filler.rows_small)
@@ -156,7 +162,8 @@ module _ (w : NodeWriter) (limits : Limits) (cells : Cells) (row : Row) (attribu
     attributes_fit = next_fits w.filler f1 limits cells.columns c1 (row ∷ []) attributes [] links s.filler (subst (λ xs. RowsFit w.filler limits xs) (sym (append-nil (row ∷ attributes))) all_fit) r1
 
     -- after the attributes are filled
-    module _ (linked : links ≡ record { parent = (innermost w.stack).row; prev = (innermost w.stack).last; attributes = length attributes }) (f2 : Filler) (c2 : Columns) (r2 : RowsFilled f1 f2 limits c1 c2 attributes (attribute_links w.filler.rows)) where
+    module _ (linked : links ≡ record { parent = (innermost w.stack).row; prev = (innermost w.stack).last; attributes = length attributes }) (f2 : Filler) (c2 : Columns)
+        (r2 : RowsFilled f1 f2 limits c1 c2 attributes (attribute_links w.filler.rows)) where
       all_placed : c2.places ≡ cells.columns.places ++ first_place.0 ∷ r2.places
       all_placed = r2.placed ∙ ap (λ ps. ps ++ r2.places) first_placed ∙ append_assoc cells.columns.places (first_place.0 ∷ []) r2.places
 
@@ -173,7 +180,8 @@ module _ (w : NodeWriter) (limits : Limits) (cells : Cells) (row : Row) (attribu
       attributes_here =
           ap (λ (p : RowPlace). take p.attr_count (drop (suc w.filler.rows) c2.places)) place_here
           ∙ ap (λ ps. take (first_place.0).attr_count (drop (suc w.filler.rows) ps)) (all_placed ∙ sym (append_assoc cells.columns.places (first_place.0 ∷ []) r2.places))
-          ∙ ap (take (first_place.0).attr_count) (drop_at (cells.columns.places ++ first_place.0 ∷ []) r2.places (suc w.filler.rows) (omega (arith, s.filler.rows, length-append cells.columns.places (first_place.0 ∷ []))))
+          ∙ ap (take (first_place.0).attr_count) (drop_at (cells.columns.places ++ first_place.0 ∷ []) r2.places (suc w.filler.rows)
+          (omega (arith, s.filler.rows, length-append cells.columns.places (first_place.0 ∷ []))))
           ∙ take_all (first_place.0).attr_count r2.places (omega (arith, count_here))
 
       -- the row and its attributes are spelled as they were given
@@ -192,7 +200,8 @@ module _ (w : NodeWriter) (limits : Limits) (cells : Cells) (row : Row) (attribu
       innermost_here : IsInnermost (document_of cells.steps).opened (innermost w.stack).row
       innermost_here = subst (λ os. IsInnermost os (innermost w.stack).row) (sym (s.stack e).rows) (innermost_is w.stack (stack_some w limits cells s e))
 
-      pub join_fits : (filled : Cells) (how : Join) → filled.columns ≡ c2 → filled.steps ≡ cells.steps → how ≡ how_of (innermost w.stack).row (innermost w.stack).last → JoinFits filled w.filler.rows how
+      pub join_fits : (filled : Cells) (how : Join) → filled.columns ≡ c2 → filled.steps ≡ cells.steps → how ≡ how_of (innermost w.stack).row (innermost w.stack).last
+          → JoinFits filled w.filler.rows how
       join_fits filled how ce se he =
           let made : Cells = record { columns = c2; steps = cells.steps } in
           let here : JoinFits made w.filler.rows how = record {
@@ -202,7 +211,8 @@ module _ (w : NodeWriter) (limits : Limits) (cells : Cells) (row : Row) (attribu
             may = subst (λ step. CanStep (document_of cells.steps) step) (sym node_here) may;
             innermost = subst (λ n. IsInnermost (document_of cells.steps).opened n) (sym parent_here) innermost_here;
             attributes = subst (λ ps. AreOf w.filler.rows ps) (sym attributes_here) (are_of w.filler.rows r2.places r2.linked);
-            prev = ap (λ (p : RowPlace). p.prev) place_here ∙ first_linked.prev ∙ ap (λ (l : Links). l.prev) linked ∙ last_here ∙ ap (λ n. last_of (children_of (rows_of cells.steps) n)) (sym parent_here);
+            prev = ap (λ (p : RowPlace). p.prev) place_here ∙ first_linked.prev ∙ ap (λ (l : Links). l.prev) linked ∙ last_here
+                ∙ ap (λ n. last_of (children_of (rows_of cells.steps) n)) (sym parent_here);
             link = he ∙ ap (how_of (innermost w.stack).row) last_here ∙ ap (λ n. how_of n (last_of (children_of (rows_of cells.steps) n))) (sym parent_here);
           } in
           let same : made ≡ filled = ap₂ (λ x y. let r : Cells = record { columns = x; steps = y } in r) (sym ce) (sym se) in
@@ -214,23 +224,28 @@ module _ (w : NodeWriter) (limits : Limits) (cells : Cells) (row : Row) (attribu
           let push = document_of-push cells.steps (Node row attributes) in
           let given : rows_of (cells.steps ++ Node row attributes ∷ []) ≡ rows_of cells.steps ++ row ∷ attributes = ap (λ (d : Document). d.rows) push in
           let ne : f2.pool.names ≡ names_of (rows_of cells.steps ++ row ∷ attributes) =
-          r2.names ∙ ap (λ (n : List Name). names_from n attributes) (r1.names ∙ ap (λ (n : List Name). names_from n (row ∷ [])) s.names) ∙ sym (names_from-append [] (rows_of cells.steps) (row ∷ attributes)) in
+          r2.names ∙ ap (λ (n : List Name). names_from n attributes) (r1.names ∙ ap (λ (n : List Name). names_from n (row ∷ [])) s.names)
+          ∙ sym (names_from-append [] (rows_of cells.steps) (row ∷ attributes)) in
           let pe : f2.pool.prefixes ≡ prefixes_of (rows_of cells.steps ++ row ∷ attributes) =
-          r2.prefixes ∙ ap (λ (p : List (List ℕ)). prefixes_from p attributes) (r1.prefixes ∙ ap (λ (p : List (List ℕ)). prefixes_from p (row ∷ [])) s.prefixes) ∙ sym (prefixes_from-append [] (rows_of cells.steps) (row ∷ attributes)) in
+          r2.prefixes ∙ ap (λ (p : List (List ℕ)). prefixes_from p attributes) (r1.prefixes ∙ ap (λ (p : List (List ℕ)). prefixes_from p (row ∷ [])) s.prefixes)
+          ∙ sym (prefixes_from-append [] (rows_of cells.steps) (row ∷ attributes)) in
           let v1 : value_bytes (row ∷ attributes) ≡ value_bytes (row ∷ []) + value_bytes attributes = sum_by-append (λ (r : Row). length r.value) (row ∷ []) attributes in
-          let v2 : value_bytes (rows_of cells.steps ++ row ∷ attributes) ≡ value_bytes (rows_of cells.steps) + value_bytes (row ∷ attributes) = sum_by-append (λ (r : Row). length r.value) (rows_of cells.steps) (row ∷ attributes) in
+          let v2 : value_bytes (rows_of cells.steps ++ row ∷ attributes) ≡ value_bytes (rows_of cells.steps) + value_bytes (row ∷ attributes) = sum_by-append (λ (r : Row). length r.value)
+          (rows_of cells.steps) (row ∷ attributes) in
           let te : f2.text ≡ text_bytes (rows_of cells.steps ++ row ∷ attributes) =
           omega (arith, s.text, ap name_bytes s.names, ap prefix_bytes s.prefixes, r1.text, r2.text, ap name_bytes ne, ap prefix_bytes pe, v1, v2) in
           let count : length r2.places ≡ length attributes = spells_count c2 r2.places attributes r2.spells in
           record {
             lawful = lawful_push cells.steps (Node row attributes) s.lawful e may;
             filler = r2.stands;
-            joined = ap length all_placed ∙ length-append cells.columns.places (first_place.0 ∷ r2.places) ∙ omega (arith, s.joined, count) ∙ sym (length-append (rows_of cells.steps) (row ∷ attributes)) ∙ ap length (sym given);
+            joined = ap length all_placed ∙ length-append cells.columns.places (first_place.0 ∷ r2.places) ∙ omega (arith, s.joined, count)
+                ∙ sym (length-append (rows_of cells.steps) (row ∷ attributes)) ∙ ap length (sym given);
             names = ne ∙ ap names_of (sym given);
             prefixes = pe ∙ ap prefixes_of (sym given);
             text = te ∙ ap text_bytes (sym given);
             stack = λ h. subst (λ (d : Document). StackStands c2 d.rows (with_joined w.stack w.filler.rows row.kind) d.opened) (sym push)
-                (joined_stands cells.columns c2 (rows_of cells.steps) w.stack (document_of cells.steps).opened row attributes (s.stack e) (stack_of cells.steps s.lawful) may (stack_some w limits cells s e) w.filler.rows
+                (joined_stands cells.columns c2 (rows_of cells.steps) w.stack (document_of cells.steps).opened row attributes (s.stack e) (stack_of cells.steps s.lawful) may
+                (stack_some w limits cells s e) w.filler.rows
                 (s.filler.rows ∙ s.joined) (first_place.0 ∷ r2.places) all_placed (ap (λ (p : RowPlace). p.depth) place_here ∙ first_depth)
                 (omega (arith, ap length all_placed, length-append cells.columns.places (first_place.0 ∷ r2.places), s.filler.rows)));
           }

@@ -4,3 +4,4 @@ pub mod Giving
 pub mod Least
 pub mod Numbered
 pub mod Unbound
+pub mod Expanded

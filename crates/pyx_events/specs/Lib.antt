@@ -9,3 +9,4 @@ pub mod Standing
 pub mod Taken
 pub mod Checking
 pub mod Numbered
+pub mod Expanded

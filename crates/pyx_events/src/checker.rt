@@ -44,8 +44,8 @@ impl Checker {
     }
 
     /// Judges the next line, and gives its events. Costs in the order of the line's bytes, where the line
-    /// completes a start also of that element's attribute lines and the square of their count, and of the
-    /// logarithm of what is in scope, however long the URIs are. A refusal is given for good, from then on
+    /// completes a start also of that element's attribute lines, and of the logarithm of their count and of what
+    /// is in scope, however long the URIs are. A refusal is given for good, from then on
     /// without a node.
     pub fn line(&mut self, alloc: Global, line: Line) -> Result<Events, EventError>
         requires { HasRoom 4294967295 self.old }

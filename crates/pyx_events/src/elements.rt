@@ -12,6 +12,7 @@ ghost use Rattle.name_grammar.specs.Names.{prefix_of};
 
 use crate::declarations::{declarations, is_declaration};
 use crate::event::{Event, Events};
+use crate::expanded_names::ExpandedNames;
 use crate::pending_start::{Attribute, PendingStart};
 use doc_model::{FlawKind, Kind, Row};
 use lists::List;
@@ -19,6 +20,9 @@ use name_grammar::{local, prefix};
 use shared_texts::{NumberedText, Shared};
 use std::alloc::{AllocError, Global};
 use xml_names::{Binding, Scopes};
+
+/// So many attributes are compared each with each: that takes no memory and less time than a set.
+const FEW_ATTRIBUTES: usize = 32;
 
 /// Why a start isn't completed.
 #[derive(Clone, Copy, Debug, PartialEq, Eq)]
@@ -193,10 +197,9 @@ fn has_expanded(scopes: &Scopes, row: &Row, number: u32, rows: &[Row], numbers: 
     false
 }
 
-// Whether two rows have one expanded name. An element has at most 256 attribute lines, so this makes at
-// most 128 comparisons for each of them, of numbers unless the URIs are the same.
+// Whether two rows have one expanded name, each compared with each.
 #[tactic(auto, using(crate::proofs::Numbered::as_many, crate::proofs::Numbered::numbered_at, crate::proofs::Numbered::numbered_from))]
-fn repeats(scopes: &Scopes, rows: &[Row], numbers: &[u32]) -> bool
+fn few_repeat(scopes: &Scopes, rows: &[Row], numbers: &[u32]) -> bool
     requires { AreNumbered scopes.now.uris rows.now numbers.now }
     ensures { result ≡ repeats rows.now }
 {
@@ -212,6 +215,44 @@ fn repeats(scopes: &Scopes, rows: &[Row], numbers: &[u32]) -> bool
         }
     }
     false
+}
+
+// Whether two rows have one expanded name, found in a set of those before. Fails only for want of memory.
+#[tactic(auto, using(crate::proofs::Numbered::as_many, crate::proofs::Numbered::numbered_at))]
+fn many_repeat(
+    alloc: Global,
+    scopes: &Scopes,
+    rows: &[Row],
+    numbers: &[u32],
+) -> Result<bool, AllocError>
+    requires { AreNumbered scopes.now.uris rows.now numbers.now }
+    ensures { IfOk result (λ repeated. repeated ≡ repeats rows.now) }
+{
+    scopes.numbers_tell_uris();
+    let mut names = ExpandedNames::new(alloc);
+    for i in 0..rows.len() {
+        if !names.add(alloc, numbers[i], rows[i].local.as_slice())? {
+            return Ok(true);
+        }
+    }
+    Ok(false)
+}
+
+// Whether two rows have one expanded name. Costs their local names and the logarithm of their count.
+fn repeats(
+    alloc: Global,
+    scopes: &Scopes,
+    rows: &[Row],
+    numbers: &[u32],
+) -> Result<bool, AllocError>
+    requires { AreNumbered scopes.now.uris rows.now numbers.now }
+    ensures { IfOk result (λ repeated. repeated ≡ repeats rows.now) }
+{
+    if rows.len() <= FEW_ATTRIBUTES {
+        Ok(few_repeat(scopes, rows, numbers))
+    } else {
+        many_repeat(alloc, scopes, rows, numbers)
+    }
 }
 
 // The node of an element's row and attributes.
@@ -243,7 +284,7 @@ fn element_node(
 }
 
 /// The node of an element, or its flaw, names aside. Costs in the order of the bytes of its lines, of
-/// the logarithm of what is in scope and of the square of its attributes.
+/// the logarithm of what is in scope and of its attributes.
 pub fn element_events(
     alloc: Global,
     scopes: &Scopes,
@@ -264,10 +305,11 @@ pub fn element_events(
     let declarations = declarations(alloc, lines.as_slice())?;
     let attributes = attribute_rows(alloc, scopes, depth + 1, lines)?;
     if repeats(
+        alloc,
         scopes,
         attributes.rows.as_slice(),
         attributes.numbers.as_slice(),
-    ) {
+    )? {
         return Err(StartError::Flawed(FlawKind::DuplicateAttr));
     }
     let mut events = List::new(alloc);

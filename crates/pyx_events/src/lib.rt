@@ -7,6 +7,7 @@ mod declarations;
 mod elements;
 mod event;
 mod event_error;
+mod expanded_names;
 mod halt;
 mod judging;
 mod laws;

@@ -15,6 +15,14 @@ const WITH_ATTRIBUTES: &[u8] =
 const CATALOGUE: &[u8] =
     b"(c:catalogue\nAxmlns:c urn:cat\n-\\n  \n(c:book\nAid b1\n-\\n    \n(c:title\n-Rows & Columns\n)c:title\n-\\n  \n)c:book\n-\\n  \n(c:book\nAid b2\n-\\n    \n(c:title\n-Tables\n)c:title\n-\\n  \n)c:book\n-\\n  \n(c:book\nAid b3\n-\\n    \n(c:title\n-Trees\n)c:title\n-\\n  \n)c:book\n-\\n\n)c:catalogue\n";
 
+// Eighteen local names under each of two URIs.
+const MANY_ATTRIBUTES: &[u8] =
+    b"(a\nAxmlns:p u\nAxmlns:q v\nAp:a 1\nAp:b 1\nAp:c 1\nAp:d 1\nAp:e 1\nAp:f 1\nAp:g 1\nAp:h 1\nAp:i 1\nAp:j 1\nAp:k 1\nAp:l 1\nAp:m 1\nAp:n 1\nAp:o 1\nAp:p 1\nAp:q 1\nAp:r 1\nAq:a 1\nAq:b 1\nAq:c 1\nAq:d 1\nAq:e 1\nAq:f 1\nAq:g 1\nAq:h 1\nAq:i 1\nAq:j 1\nAq:k 1\nAq:l 1\nAq:m 1\nAq:n 1\nAq:o 1\nAq:p 1\nAq:q 1\nAq:r 1\n-x\n)a\n";
+
+// Attributes under one URI, the last of 37 with the name of the first.
+const MANY_WITH_A_REPEAT: &[u8] =
+    b"(a\nAxmlns:p u\nAxmlns:q u\nAp:a 1\nAp:b 1\nAp:c 1\nAp:d 1\nAp:e 1\nAp:f 1\nAp:g 1\nAp:h 1\nAp:i 1\nAp:j 1\nAp:k 1\nAp:l 1\nAp:m 1\nAp:n 1\nAp:o 1\nAp:p 1\nAp:q 1\nAp:r 1\nAq:aa 1\nAq:bb 1\nAq:cc 1\nAq:dd 1\nAq:ee 1\nAq:ff 1\nAq:gg 1\nAq:hh 1\nAq:ii 1\nAq:jj 1\nAq:kk 1\nAq:ll 1\nAq:mm 1\nAq:nn 1\nAq:oo 1\nAq:pp 1\nAq:qq 1\nAq:rr 1\nAq:a 1\n-x\n)a\n";
+
 const USAGE: &str = "usage: dtmx_pace [--turns=LIST] builtin=OUT ...\n";
 
 // Which calls of the source, the drawer and the console fail.
@@ -171,6 +179,22 @@ fn answers_in_any_pieces(rt: HostRuntime) -> Result<(), Fail> {
         (
             "--turns=b1000000 builtin=o",
             b"(a\nAp:k 1\nAq:k 2\nAxmlns:p u\nAxmlns:q u\n)a\n",
+            4,
+            "",
+            "",
+            "source: line 1: DuplicateAttr\n",
+        ),
+        (
+            "--turns=b1000000 builtin=o",
+            MANY_ATTRIBUTES,
+            0,
+            "o",
+            "x",
+            "r0 1\n",
+        ),
+        (
+            "--turns=b1000000 builtin=o",
+            MANY_WITH_A_REPEAT,
             4,
             "",
             "",

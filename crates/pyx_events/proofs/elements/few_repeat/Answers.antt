@@ -1,6 +1,6 @@
 use Rattle.std.proofs.Common.{◌+◌, ◌-◌, length}
 use Rattle.pyx_events.proofs.Numbered.{as_many, numbered_from, numbered_part}
-use Rattle.pyx_events.proofs.elements.repeats.Goals as goal
+use Rattle.pyx_events.proofs.elements.few_repeat.Goals as goal
 
 pub has_expanded-requires-clause-rows : goal.has_expanded-requires-clause-rows
 has_expanded-requires-clause-rows c =
