@@ -365,16 +365,39 @@ class Writes(InFolder):
                 self.assertEqual(self.pace(f"builtin={name}", input=ITEMS), (6, b"write failed\n", b""))
                 self.assertEqual(self.files(), {})
 
-    def test_a_put_that_fails_within_its_text(self):
-        (self.folder / "out").write_bytes(b"before")
-        status, console, message = self.pace(
-            "builtin=out", "builtin=behind", input=b"(a\n-" + b"x" * 3000 + b"\n)a\n",
-            # No file may grow beyond a thousand bytes. Python ignores the signal of this limit, and so does what it
-            # starts unless signals are restored: the write fails instead.
-            preexec_fn=lambda: resource.setrlimit(resource.RLIMIT_FSIZE, (1000, 1000)), restore_signals=False,
+    def put_within(self, size, name):
+        """A put of 3,000 bytes under this name where no file may grow beyond so many bytes."""
+        # Python ignores the signal of this limit, and so does what it starts unless signals are restored: the write
+        # fails instead.
+        return self.pace(
+            f"builtin={name}", "builtin=behind", input=b"(a\n-" + b"x" * 3000 + b"\n)a\n",
+            preexec_fn=lambda: resource.setrlimit(resource.RLIMIT_FSIZE, (size, size)), restore_signals=False,
         )
-        self.assertEqual((status, console, message), (6, b"write failed\n", b""))
-        self.assertEqual(self.files(), {"out": b"x" * 1000})
+
+    def test_a_put_that_fails_within_its_text_leaves_what_was_there(self):
+        self.assertEqual(self.put_within(1000, "out"), (6, b"write failed\n", b""))
+        self.assertEqual(self.files(), {})
+        (self.folder / "out").write_bytes(b"before")
+        self.assertEqual(self.put_within(1000, "out"), (6, b"write failed\n", b""))
+        self.assertEqual(self.files(), {"out": b"before"})
+
+    def test_what_is_no_ordinary_file_is_written_straight(self):
+        (self.folder / "linked").write_bytes(b"before")
+        (self.folder / "out").symlink_to("linked")
+        self.assertEqual(self.put_within(1000, "out"), (6, b"write failed\n", b""))
+        self.assertEqual((self.folder / "linked").read_bytes(), b"x" * 1000)
+        self.assertEqual(self.pace(AT_ONCE, "builtin=out", input=ITEMS), (0, b"r0 2\n", b""))
+        self.assertTrue((self.folder / "out").is_symlink())
+        self.assertEqual((self.folder / "linked").read_bytes(), b"onetwo")
+
+    def test_a_put_keeps_permissions_and_the_files_beside(self):
+        (self.folder / "out").write_bytes(b"before")
+        (self.folder / "out").chmod(0o640)
+        self.assertEqual(self.pace(AT_ONCE, "builtin=out", input=ITEMS), (0, b"r0 2\n", b""))
+        self.assertEqual((self.folder / "out").stat().st_mode & 0o777, 0o640)
+        (self.folder / "out.part").write_bytes(b"somebody's")
+        self.assertEqual(self.pace(AT_ONCE, "builtin=out", input=ITEMS), (0, b"r0 2\n", b""))
+        self.assertEqual(self.files(), {"out": b"onetwo", "out.part": b"somebody's"})
 
     def test_a_full_console(self):
         for words, source, files in self.UNTOLD:

@@ -1,3 +1,4 @@
+pub mod HeardLemmas
 pub mod PairLemmas
 pub mod Pieces
 pub mod PlaceLemmas

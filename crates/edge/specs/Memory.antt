@@ -1,5 +1,6 @@
 -- What the objects over memory are, as values, and what a call makes of the calls that they count.
 use Rattle.std.specs.Prelude.{ℕ, ◌+◌, ◌-◌, ◌^◌, min, List, Contains, length}
+use Rattle.edge.specs.Hearing.{Hearing}
 
 -- how many calls an object had, the numbers of the calls that fail, and how often it has failed
 pub record Calls : Type 0 where
@@ -53,3 +54,13 @@ pub record SinkState : Type 0 where
 -- what a put counts against the room: 16 beside the bytes of its name and its own
 abbrev pub put_size : List ℕ → List ℕ → ℕ
 put_size name bytes = 16 + length name + length bytes
+
+-- a listener: the messages heard, each the number of a sheet and a line, and how many more bytes it has room for
+pub record ListenerState : Type 0 where
+  pub heard : List (ℕ × List ℕ)
+  pub room : ℕ
+  pub calls : Calls
+
+-- what it tells of its calls
+abbrev pub hearing_of : ListenerState → Hearing
+hearing_of listener = record { had = listener.calls.had; failing = listener.calls.failing; room = listener.room }

@@ -5,6 +5,7 @@ ghost use Rattle.std.specs.Io.{ReadsAtMost};
 ghost use Rattle.std.specs.Io.KnownBytes.{ReadConsumes};
 ghost use Rattle.std.specs.Option.{option_map};
 ghost use Rattle.edge.specs.Causes.{HasCause, HasShelfCause};
+ghost use Rattle.edge.specs.Hearing.{Hearing, HearsAsTold};
 ghost use Rattle.edge.specs.Outside.{Stays, AddsAtOk, WritesAll, first_named};
 
 use crate::{Failed, ShelfError};
@@ -77,11 +78,15 @@ pub trait Listener: Drop {
     /// The messages heard so far, each the number of a sheet and a line, where the listener tells them.
     ghost heard: { Self → Option (List (ℕ × List ℕ)) };
 
+    /// How many calls it had, the numbers of those that fail and the room that is left, where the listener tells them.
+    ghost hearing: { Self → Option Hearing };
+
     /// How often it has failed.
     ghost faults: { Self → ℕ };
 
     /// Hears a message. `Failed` leaves what was heard. Takes no memory.
     fn hear(&mut self, sheet: u32, line: &[u8]) -> Result<(), Failed>
         ensures heard { AddsAtOk (heard self.old) (heard self.new) result (sheet, line.now) }
+        ensures calls { HearsAsTold (hearing self.old) (hearing self.new) result line.now }
         ensures cause { HasCause (faults self.old) (faults self.new) result };
 }

@@ -1,6 +1,6 @@
 use crate::{
-    Drawer, Failed, FileDrawer, FileShelf, MemoryDrawer, MemoryShelf, MemorySink, MemorySource,
-    Reading, Shelf, ShelfError, Sink, Source, Writing,
+    Drawer, Failed, FileDrawer, FileShelf, Listener, MemoryDrawer, MemoryListener, MemoryShelf,
+    MemorySink, MemorySource, Reading, Shelf, ShelfError, Sink, Source, Writing,
 };
 use std::alloc::Global;
 use std::io::{self, ErrorKind, Read, Write};
@@ -125,6 +125,31 @@ fn sink_keeps_what_fits(rt: HostRuntime) -> Result<(), Fail> {
     Ok(())
 }
 
+#[test]
+fn listener_keeps_what_fits(rt: HostRuntime) -> Result<(), Fail> {
+    let mut listener = MemoryListener::make(rt.alloc(), &[2], 40)?;
+    assert!(rt; listener.is_empty());
+    for (sheet, line, taken) in [
+        (0, "abc", true),
+        (1, "", false),
+        (1, "123456", false),
+        (1, "12345", true),
+        (0, "", false),
+    ] {
+        assert_eq!(rt;
+            listener.hear(sheet, line.as_bytes()).is_ok(),
+            taken,
+            "{line}"
+        );
+    }
+    assert_eq!(rt; listener.len(), 2);
+    for (index, sheet, line) in [(0, 0, "abc"), (1, 1, "12345")] {
+        assert_eq!(rt; listener.sheet(index), sheet);
+        assert_eq!(rt; listener.line(index), line.as_bytes());
+    }
+    Ok(())
+}
+
 // A reader and writer that fails at once, or only when it is flushed.
 #[derive(Drop)]
 struct Broken {
@@ -177,7 +202,9 @@ fn files_are_put_and_fetched(rt: HostRuntime) -> Result<(), Fail> {
             "{text}"
         );
     }
+    assert!(rt; fetches(alloc, &mut shelf, "put_and_fetched.part", Ok(None)));
     assert!(rt; !puts(&mut drawer, "no/such/folder", "text"));
+    assert!(rt; !puts(&mut drawer, "/dev/full", "text"));
     for (name, want) in [
         ("no/such/file", Ok(None)),
         (".", Err(ShelfError::Failed)),
