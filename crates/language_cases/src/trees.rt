@@ -31,6 +31,12 @@ fn name(out: &mut String, label: &str, n: &NameRef) {
         put(out, ":");
     }
     put_bytes(out, "", n.local.as_slice(), ">");
+    if let Some(uri) = &n.uri {
+        put_bytes(out, "{", uri.as_slice(), "}");
+    }
+    if let Some(slot) = n.slot {
+        let _short = write!(out, "#{slot}");
+    }
 }
 
 fn axis(axis: AxisName) -> &'static str {

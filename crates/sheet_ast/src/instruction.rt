@@ -28,7 +28,7 @@ pub enum Instruction {
     Element {
         name: List<Part>,
         namespace: Option<List<Part>>,
-        /// The place in the sheet's scopes of those that stand here.
+        /// The scope that stands here, as the entries of the sheet number it.
         scopes: u32,
         body: List<Instruction>,
     },
@@ -36,7 +36,7 @@ pub enum Instruction {
     Attribute {
         name: List<Part>,
         namespace: Option<List<Part>>,
-        /// The place in the sheet's scopes of those that stand here.
+        /// The scope that stands here, as the entries of the sheet number it.
         scopes: u32,
         body: List<Instruction>,
     },

@@ -2,7 +2,7 @@
 
 use crate::instruction::{Instruction, VarValue, Variable};
 use lists::List;
-use xml_names::Scopes;
+use sheet_scopes::ScopeEntry;
 use xpath_syntax::{Expr, NameRef, Pattern, PatternPath};
 
 /// A stylesheet. The places in its lists are counted from 0.
@@ -14,8 +14,8 @@ pub struct Sheet {
     pub globals: List<Global>,
     pub keys: List<KeyDecl>,
     pub strips: List<StripRuleDecl>,
-    /// The namespaces in scope at the instructions that compute names.
-    pub scopes: List<Scopes>,
+    /// The declarations of namespaces, which number the scopes of the instructions that compute names.
+    pub scopes: List<ScopeEntry>,
     /// Whether the output method is text, and not PYX.
     pub text_method: bool,
 }

@@ -1,4 +1,10 @@
 mod Last
+mod Slots
+mod Answered
 mod Equations
 mod Links
 mod Edits
+mod Bounds
+mod InOrder
+mod Carried
+mod Operands

@@ -1,9 +1,10 @@
 //! What names are bound to.
 
-ghost use Rattle.std.specs.Prelude.{◌≡◌, ◌<◌, ◌+◌, ◌^◌, ◌++◌, List, length, Some, IfOk};
+ghost use Rattle.std.specs.Prelude.{◌≡◌, ◌<◌, ◌+◌, ◌^◌, ◌++◌, List, length, Some, Ok, IfOk};
 ghost use Rattle.xpath_binding.specs.Names as spec;
 ghost use Rattle.xpath_binding.specs.Names.{Answers, resolution};
 ghost use Rattle.xpath_binding.specs.Places.{last_place};
+ghost use Rattle.xpath_binding.specs.Scope.{slot_in};
 
 use crate::error::BindError;
 use lists::List;
@@ -63,4 +64,30 @@ fn last_place(names: &List<NameRef>, uri: &[u8], local: &[u8]) -> Option<usize>
         }
     }
     None
+}
+
+// A place that no `u32` has would take more variables than memory has.
+fn numbered(before: usize, place: usize) -> Result<u32, BindError>
+    ensures { Answers (Ok (before + place)) result }
+{
+    match before.checked_add(place) {
+        Some(place) => match u32::try_from(place) {
+            Ok(slot) => Ok(slot),
+            Err(_) => Err(BindError::Memory),
+        },
+        None => Err(BindError::Memory),
+    }
+}
+
+/// The place of a variable, where globals are numbered first.
+pub fn slot_of(vars: &VarNames, uri: &[u8], local: &[u8]) -> Result<u32, BindError>
+    ensures { Answers (slot_in vars.now uri.now local.now) result }
+{
+    if let Some(place) = last_place(&vars.locals, uri, local) {
+        return numbered(vars.globals.len(), place);
+    }
+    match last_place(&vars.globals, uri, local) {
+        Some(place) => numbered(0, place),
+        None => Err(BindError::UnknownVariable),
+    }
 }
