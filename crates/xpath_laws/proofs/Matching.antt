@@ -1,0 +1,90 @@
+-- Whether a node matches stays.
+use Rattle.std.proofs.Common.{refl, ℕ, List, [], ◌∷◌, map, reverse, Bool, true, false, Option, Some, None}
+use Rattle.std.specs.Prelude.{◌||◌, ⊤}
+use mathlib.Core.List.{reverse_aux}
+use Rattle.doc_model.specs.declared.node_test.Test.{Test}
+use Rattle.doc_model.specs.declared.node_test.Test.TheVariants as test
+use Rattle.doc_model.specs.declared.row.Axis.TheVariants as axis
+use Rattle.doc_model.specs.Answers.{Stays}
+use Rattle.doc_model.specs.Document.{is_member}
+use Rattle.xpath_syntax.specs.declared.pattern.Pattern.{Pattern}
+use Rattle.xpath_syntax.specs.declared.pattern.PatternPath.{PatternPath}
+use Rattle.xpath_syntax.specs.declared.pattern.PatternStart.{PatternStart}
+use Rattle.xpath_syntax.specs.declared.pattern.PatternStart.TheVariants as start
+use Rattle.xpath_syntax.specs.declared.pattern.PatternStep.{PatternStep}
+use Rattle.xpath_meaning.specs.declared.context.Size.{Size}
+use Rattle.xpath_meaning.specs.Conversions.{first_of}
+use Rattle.xpath_meaning.specs.Match.{MatchStep, match_step, fits, beside, size_of, context_at, says, position_in, passes, passes_all, fits_below, is_step_to, sources, is_found_by_key, starts, leads, match_path, match_of}
+use Rattle.xpath_meaning.specs.Meanings.{Meant}
+use Rattle.xpath_meaning.specs.Reading.{Reading, Extends}
+use Rattle.xpath_laws.proofs.Staying.{bind_stays, if_stays, some_stays, kept_stays}
+use Rattle.xpath_laws.proofs.Keeping.{MeantKeeps, AllKeep, holds_keeps}
+use Rattle.xpath_laws.proofs.Expressions.{step_keeps}
+
+beside_stays : (attribute whole : Bool) (test : Test) (R Q : Reading) → Extends R Q → (above n : ℕ) → Stays (beside attribute whole test R above n) (beside attribute whole test Q above n)
+beside_stays true whole test R Q x above n = x.axis axis.Attribute test above
+beside_stays false true test R Q x above n = x.axis axis.Child test above
+beside_stays false false test R Q x above n = bind_stays _ _ _ _ (x.axis axis.PrecedingSibling test n) (λ before. refl)
+
+says_stays : (R Q : Reading) → Extends R Q → (size : Size) (m : Meant) → MeantKeeps m → (position n : ℕ) → Stays (says R size m position n) (says Q size m position n)
+says_stays R Q x size m k position n = holds_keeps m k R Q x [] (context_at size position n)
+
+passes_stays : (R Q : Reading) → Extends R Q → (known : Bool) (n : ℕ) (predicates : List Meant) → AllKeep predicates → (nodes : List ℕ) → Stays (passes R known n predicates nodes) (passes Q known n predicates nodes)
+passes_stays R Q x known n [] k nodes = refl
+passes_stays R Q x known n (m ∷ []) k nodes = says_stays R Q x (size_of known nodes) m k.0 (position_in 1 n nodes) n
+passes_stays R Q x known n (m ∷ l ∷ later) k nodes =
+    bind_stays _ _ _ _ (kept_stays 1 _ _ nodes (says_stays R Q x (size_of known nodes) m k.0))
+    (λ left. if_stays (is_member n left) _ _ _ _ (passes_stays R Q x known n (l ∷ later) k.1 left) refl)
+
+passes_all_stays : (R Q : Reading) → Extends R Q → (step : MatchStep) (above n : ℕ) (predicates : List Meant) → AllKeep predicates → Stays (passes_all R step above n predicates) (passes_all Q step above n predicates)
+passes_all_stays R Q x step above n [] k = refl
+passes_all_stays R Q x step above n (m ∷ ms) k =
+    bind_stays _ _ _ _ (beside_stays step.attribute step.whole step.test R Q x above n) (λ nodes. passes_stays R Q x (step.attribute || step.whole) n (m ∷ ms) k nodes)
+
+below_stays : (R Q : Reading) → Extends R Q → (step : MatchStep) → AllKeep step.predicates → (n : ℕ) (above : Option ℕ) → Stays (fits_below R step n above) (fits_below Q step n above)
+below_stays R Q x step k n None = refl
+below_stays R Q x step k n (Some above) =
+    bind_stays _ _ _ _ (x.row n) (λ row. if_stays (fits step.attribute step.test row) _ _ _ _ (passes_all_stays R Q x step above n step.predicates k) refl)
+
+step_to_stays : (R Q : Reading) → Extends R Q → (step : MatchStep) → AllKeep step.predicates → (n : ℕ) → Stays (is_step_to R step n) (is_step_to Q step n)
+step_to_stays R Q x step k n = bind_stays _ _ _ _ (x.axis axis.Parent test.Any n) (λ above. below_stays R Q x step k n (first_of above))
+
+sources_stay : (R Q : Reading) → Extends R Q → (deep : Bool) (n : ℕ) → Stays (sources R deep n) (sources Q deep n)
+sources_stay R Q x true n = x.axis axis.Ancestor test.Any n
+sources_stay R Q x false n = x.axis axis.Parent test.Any n
+
+by_key_stays : (R Q : Reading) → Extends R Q → (slot : Option ℕ) (value : List ℕ) (n : ℕ) → Stays (is_found_by_key R slot value n) (is_found_by_key Q slot value n)
+by_key_stays R Q x None value n = refl
+by_key_stays R Q x (Some key) value n = bind_stays _ _ _ _ (x.by_key key value) (λ nodes. refl)
+
+starts_stay : (R Q : Reading) → Extends R Q → (s : PatternStart) (n : ℕ) → Stays (starts R s n) (starts Q s n)
+starts_stay R Q x start.Relative n = refl
+starts_stay R Q x start.Root n = refl
+starts_stay R Q x start.Deep n = refl
+starts_stay R Q x (start.Id id) n = bind_stays _ _ _ _ (x.by_id id) (λ nodes. refl)
+starts_stay R Q x (start.Key name value) n = by_key_stays R Q x name.slot value n
+
+abbrev AllFit : List MatchStep → Type 0
+AllFit [] = ⊤
+AllFit (step ∷ steps) = AllKeep step.predicates × AllFit steps
+
+leads_stay : (R Q : Reading) → Extends R Q → (s : PatternStart) (steps : List MatchStep) → AllFit steps → (n : ℕ) → Stays (leads R s steps n) (leads Q s steps n)
+leads_stay R Q x s [] k n = starts_stay R Q x s n
+leads_stay R Q x s (step ∷ steps) k n =
+    bind_stays _ _ _ _ (step_to_stays R Q x step k.0 n)
+    (λ here. if_stays here _ _ _ _ (bind_stays _ _ _ _ (sources_stay R Q x step.deep n) (λ above. some_stays (leads R s steps) (leads Q s steps) above (leads_stay R Q x s steps k.1))) refl)
+
+all_fit : (steps : List PatternStep) → AllFit (map match_step steps)
+all_fit [] = tt
+all_fit (step ∷ steps) = (step_keeps step.part, all_fit steps)
+
+-- the steps are gone through from the last one
+reversed_fit : (steps done : List MatchStep) → AllFit steps → AllFit done → AllFit (reverse_aux steps done)
+reversed_fit [] done k d = d
+reversed_fit (step ∷ steps) done k d = reversed_fit steps (step ∷ done) k.1 (k.0, d)
+
+pub path_match_stays : (R Q : Reading) → Extends R Q → (path : PatternPath) (n : ℕ) → Stays (match_path R path n) (match_path Q path n)
+path_match_stays R Q x path n = leads_stay R Q x path.start (reverse (map match_step path.parts)) (reversed_fit (map match_step path.parts) [] (all_fit path.parts) tt) n
+
+pub match_stays : (R Q : Reading) → Extends R Q → (pattern : Pattern) (n : ℕ) → Stays (match_of R pattern n) (match_of Q pattern n)
+match_stays R Q x pattern n = some_stays _ _ pattern.alternatives (λ path. path_match_stays R Q x path n)
