@@ -20,6 +20,7 @@ bench: build contrib
 	bench/scopes.sh
 	bench/turns.sh
 	bench/real.sh
+	bench/items.sh
 	bench/words.sh
 	bench/hostile.sh
 

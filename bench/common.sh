@@ -16,6 +16,15 @@ items() {
   }'
 }
 
+# STATUS COMMAND: runs a command once, and fails the script where it ends with another status than that, since a cost
+# says nothing of a run that did something else.
+ends() {
+  local wanted=$1 status=0
+  shift
+  "$@" > "$folder/ended" 2>&1 || status=$?
+  [ "$status" -eq "$wanted" ] || { echo "$0: $*: status $status, which isn't $wanted: $(tail -n 1 "$folder/ended")" >&2; exit 1; }
+}
+
 # The processor time of one run of a command in microseconds, so that it can be read on a busy machine too: the least
 # of three groups of `runs` runs, each over its number of runs.
 cost() {

@@ -22,6 +22,7 @@ row() {
   local lines bytes took counted
   lines=$(wc -l < "$2")
   bytes=$(wc -c < "$2")
+  ends 0 run_pace "$2"
   took=$(cost run_pace "$2")
   counted=$(cost run_wc "$2")
   awk -v label="$1" -v lines="$lines" -v bytes="$bytes" -v took="$took" -v start="$start" -v counted="$counted" -v last="$last" -v kept="$folder/net" 'BEGIN {

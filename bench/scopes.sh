@@ -24,6 +24,10 @@ first=
 for depth in 1 10 100 999; do
   nested "$depth" 0 > "$folder/bare"
   nested "$depth" "$names" > "$folder/full"
+  # The built-in rules end with a fault at the 500th element within another.
+  fault=$((depth >= 500))
+  ends "$fault" run_pace "$folder/bare"
+  ends "$fault" run_pace "$folder/full"
   bare=$(cost run_pace "$folder/bare")
   full=$(cost run_pace "$folder/full")
   net=$((full - bare))

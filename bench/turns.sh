@@ -12,6 +12,8 @@ last() { "$pace" --turns=b1000000 "builtin=$folder/last.txt" < "$folder/source" 
 half=
 for lines in 20000 40000 80000 160000; do
   items "$lines" > "$folder/source"
+  ends 0 each
+  ends 0 last
   at_each=$(cost each)
   at_last=$(cost last)
   cmp "$folder/each.txt" "$folder/last.txt"
