@@ -53,13 +53,14 @@ make_source() {
     BEGIN { '"$1"' }'
 }
 
-# One element with 254 new names under a URI of 131,000 bytes. Each name counts with its URI, so that this is near the
-# limit of text; were each compared with each and the URI first, it would be read 32,000 times.
+# One element with 254 new names under a URI of 131,000 bytes. Each name counts with its URI and is filled with it, so
+# that this is near the limit of text; were each compared with each and the URI first, it would be read 32,000 times.
+# What doubles is the URI alone: with the names too the table would have to hold four times the bytes.
 names_under_one_long_uri() {
   make_source '
     print "(p:e"
     print "Axmlns:p " wide(65500 * size)
-    for (i = 0; i < 127 * size; i++) print "Ap:n" i " v"
+    for (i = 0; i < 254; i++) print "Ap:n" i " v"
     print ")p:e"' "$@"
 }
 

@@ -19,7 +19,7 @@ use Rattle.pyx_events.specs.Steps.{steps_of_events}
 use Rattle.node_writer.specs.declared.new_names.NewNames.{NewNames}
 use Rattle.node_writer.specs.New.{capped, names_bytes, has_new_name, has_type_of, AddsNames}
 use Rattle.node_writer.specs.Taken.{names_from, prefixes_from, name_bytes, prefix_bytes, name_count, name_of_row, is_name_of}
-use Rattle.node_writer.proofs.Adding.{name_sum, prefix_sum, name_length, prefix_length, name_still_new, name_not_new}
+use Rattle.node_writer.proofs.Adding.{name_sum, prefix_sum, name_length, prefix_length, name_apart}
 use Rattle.node_writer.proofs.Taken.{names_from-append, prefixes_from-append}
 use Rattle.dtm_builder.specs.Judging.{table_names, Adds, own_rows}
 use Rattle.dtm_builder.proofs.Agreeing.{HaveNoRoot, same_count, same_bytes}
@@ -72,10 +72,7 @@ start_differs uris bound deep n target value (Some it) =
 
 -- an instruction's target is as new after the element as before it
 still_new : (rows more : List Row) (row : Row) → has_type_of row more ≡ false → has_new_name rows row ≡ has_new_name (rows ++ more) row
-still_new rows more row h = elim (cases_Bool (has_new_name rows row)) [
-  | inl e ↦ e ∙ name_still_new rows more row true false (sym e) (sym h) refl
-  | inr e ↦ e ∙ name_not_new rows more row false (sym e) refl
-]
+still_new rows more row h = name_apart rows more row (has_new_name rows row) refl h
 
 no_new : (rows : List Row) (all : Names) (own : NewNames) → AddsNames rows [] own → Adds all own all
 no_new rows all own a =

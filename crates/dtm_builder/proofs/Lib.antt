@@ -16,3 +16,4 @@ pub mod Flaws
 pub mod Judged
 pub mod Reading
 pub mod Cases
+pub mod Recalling

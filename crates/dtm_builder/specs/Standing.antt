@@ -12,6 +12,8 @@ use Rattle.doc_model.specs.Lawful.{CanStep, LawfulFrom}
 use Rattle.doc_model.specs.Rows.{rows_of}
 use Rattle.node_writer.specs.Taken as taken
 use Rattle.pyx_lines.specs.declared.line.Line.{Line}
+use Rattle.node_writer.specs.Known.{names_in}
+use Rattle.pyx_events.specs.Before.{uris_to}
 use Rattle.pyx_events.specs.Checking as checking
 use Rattle.pyx_events.specs.Counted.{names_of}
 use Rattle.pyx_events.specs.Nodes.{events_to}
@@ -19,6 +21,7 @@ use Rattle.pyx_events.specs.Steps.{steps_of_events}
 use Rattle.node_writer.specs.Stands as writing
 use Rattle.dtm_builder.specs.Judging.{IsCount, table_names, verdict_of}
 use Rattle.dtm_builder.specs.Lines.{AreReadable, AreFlawless}
+use Rattle.dtm_builder.specs.Recalled.{Recalls}
 use Rattle.dtm_builder.specs.declared.build_error.BuildError.{BuildError}
 use Rattle.dtm_builder.specs.declared.build_error.BuildError.TheVariants.{Refused, Memory}
 use Rattle.dtm_builder.specs.declared.builder.Builder.{Builder}
@@ -35,6 +38,7 @@ pub record Stands (builder : Builder) (limits : Limits) (cells : Cells) (before 
   pub written : writing.Stands builder.writer limits cells
   pub names : IsCount builder.names (names_of false (events_to before))
   pub steps : cells.steps ≡ steps_of_events (events_to before)
+  pub recalled : Recalls builder.index (uris_to before) (names_in builder.writer)
 
 -- the writer stands for the table, whose names are those that are kept
 pub record Counts (builder : Builder) (limits : Limits) (cells : Cells) : Type 0 where
@@ -42,7 +46,7 @@ pub record Counts (builder : Builder) (limits : Limits) (cells : Cells) : Type 0
   pub written : writing.Stands builder.writer limits cells
   pub names : IsCount builder.names (table_names (rows_of cells.steps))
 
--- all but the checker is as it was
+-- all but the checker and the index is as it was
 pub record IsSameBut (old new : Builder) : Type 0 where
   pub writer : new.writer ≡ old.writer
   pub limits : new.limits ≡ old.limits
@@ -55,6 +59,7 @@ pub record HasTaken (judged : Judged) (old new : Builder) : Type 0 where
   pub names : new.names ≡ judged.names
   pub lines : new.lines ≡ old.lines + 1
   pub checker : new.checker ≡ old.checker
+  pub index : new.index ≡ old.index
   pub limits : new.limits ≡ old.limits
   pub refusal : new.refusal ≡ old.refusal
 

@@ -2,6 +2,7 @@ ghost use Rattle.std.specs.Prelude.{◌≡◌};
 ghost use Rattle.dtm_builder.specs.Judging.{verdict_of};
 
 use doc_model::{Flaw, Verdict};
+use std::alloc::AllocError;
 use thiserror::Error;
 
 /// Why a builder takes no more lines.
@@ -13,6 +14,17 @@ pub enum BuildError {
     /// The table ended as Starved.
     #[error("out of memory")]
     Memory,
+}
+
+impl From<AllocError> for BuildError {
+    ghost use Rattle.std.specs.Prelude.{◌≡◌};
+    ghost use Rattle.dtm_builder.specs.declared.build_error.BuildError.TheVariants.{Memory};
+
+    ghost from_gives = { λ _ e. e ≡ Memory };
+
+    fn from(_error: AllocError) -> BuildError {
+        BuildError::Memory
+    }
 }
 
 impl BuildError {

@@ -13,6 +13,9 @@ ghost use Rattle.pyx_events.specs.Counted.{Names, names_of};
 ghost use Rattle.pyx_events.specs.Flaw.{at_line, or_flaw, names_flaw, line_flaw, end_flaw};
 ghost use Rattle.pyx_events.specs.Nodes.{line_events, events_to};
 ghost use Rattle.pyx_events.specs.Steps.{steps_of_events};
+ghost use Rattle.node_writer.specs.Known.{AreApart, AreFound, AreKnown, names_in};
+ghost use Rattle.pyx_events.specs.Before.{uris_to};
+ghost use Rattle.dtm_builder.specs.Recalled.{Recalls, first_rows};
 ghost use Rattle.dtm_builder.specs.Judging.{table_names, IsCount, Adds, element_rows, started_flaw, flaw_with, verdict_of};
 ghost use Rattle.dtm_builder.specs.Lines.{IsReadable, line_steps};
 ghost use Rattle.dtm_builder.specs.Standing.{CanFollow, Stands, Counts, HasTaken, IsSameBut, IsRefused, CanTake, CanEnd, HasAppended, IsFlawOf, Refuses, CanStop};
@@ -21,19 +24,22 @@ ghost use Rattle.dtm_builder.specs.declared.build_error.BuildError.{BuildError};
 use crate::build_error::BuildError;
 use crate::judging::{data_length, judge_element, larger, own_names, with_names};
 use crate::names::NameCount;
+use crate::recall::recall;
 use crate::steps::write_events;
 use doc_model::{Flaw, GrowCells, Limits, Verdict};
-use name_pool::Memory;
+use lists::List;
+use name_pool::{Memory, TypeIndex};
 use node_writer::{NewNames, NodeWriter};
 use pyx_events::{Checker, EventError, Events};
 use pyx_lines::Line;
 use std::alloc::Global;
 
-// A line's events, and the names after them.
+// A line's events, the names after them, and what the table has of the names of the first.
 #[derive(Drop)]
 struct Judged {
     events: Events,
     names: NameCount,
+    found: List<Option<u32>>,
 }
 
 /// Builds a table from the lines of a source, one after the other: judges each, its names and their bytes
@@ -43,6 +49,8 @@ struct Judged {
 pub struct Builder {
     checker: Checker,
     writer: NodeWriter,
+    // names of the table by the numbers of their URIs
+    index: TypeIndex,
     limits: Limits,
     // the names of the table
     names: NameCount,
@@ -67,6 +75,7 @@ impl Builder {
         Ok(Builder {
             checker,
             writer,
+            index: TypeIndex::new(alloc),
             limits,
             names: NameCount { count: 0, bytes: 0 },
             lines: 0,
@@ -76,8 +85,10 @@ impl Builder {
 
     /// Takes the next line: appends the steps that it gives. At the first flaw the table ends as Bad with
     /// it, and for want of memory as Starved; what was appended before stays. A refusal is given for good.
-    /// Costs in the order of the line's bytes, and where the line completes a start, of that element's
-    /// attribute lines and the URIs of their names.
+    /// Costs in the order of the line's bytes, where the line completes a start also of that element's
+    /// attribute lines, each times a logarithm, however long the URIs in scope are: a URI's bytes are read
+    /// where it is declared, and where a name is new to the table, which counts and keeps them, or is seen
+    /// for the second time.
     pub fn line<C: GrowCells>(
         &mut self,
         alloc: Global,
@@ -194,6 +205,7 @@ impl Builder {
         requires few { self.old.lines < 4294967295 }
         requires stands { writing.Stands self.old.writer (C.limits c.old) (C.cells c.old) }
         requires follows { CanFollow (C.limits c.old) (C.cells c.old).steps (steps_of_events judged.events) }
+        requires known { AreKnown 0 (names_in self.old.writer) (first_rows judged.events) judged.found }
         ensures written { OnOk result (writing.Stands self.new.writer (C.limits c.new) (C.cells c.new)) }
         ensures steps { OnOk result ((C.cells c.new).steps ≡ (C.cells c.old).steps ++ steps_of_events judged.events) }
         ensures taken { OnOk result (HasTaken judged self.old self.new) }
@@ -202,9 +214,20 @@ impl Builder {
         ensures limits { C.limits c.new ≡ C.limits c.old }
         ensures mark { C.mark c.new ≡ C.mark c.old }
     {
-        match write_events(&mut self.writer, alloc, c, judged.events.as_slice()) {
+        let Judged {
+            events,
+            names,
+            found,
+        } = judged;
+        match write_events(
+            &mut self.writer,
+            alloc,
+            c,
+            events.as_slice(),
+            found.as_slice(),
+        ) {
             Ok(_) => {
-                self.names = judged.names;
+                self.names = names;
                 self.lines += 1;
                 Ok(())
             }
@@ -220,6 +243,8 @@ impl Builder {
         ensures names { (limits : Limits) (cells : Cells) (before : List Line) → Stands self.old limits cells before → IfOk result (λ judged. IsCount judged.names (names_of false (events_to (line ∷ before)))) }
         ensures checked { (limits : Limits) (cells : Cells) (before : List Line) → Stands self.old limits cells before → OnOk result (checking.Stands limits self.new.checker (line ∷ before)) }
         ensures flaw { (limits : Limits) (cells : Cells) (before : List Line) → Stands self.old limits cells before → IfErr result (λ error. IsFlawOf (line_flaw limits false before line) error) }
+        ensures known { (limits : Limits) (cells : Cells) (before : List Line) → Stands self.old limits cells before → IfOk result (λ judged. AreKnown 0 (names_in self.old.writer) (first_rows judged.events) judged.found) }
+        ensures recalled { (limits : Limits) (cells : Cells) (before : List Line) → Stands self.old limits cells before → OnOk result (Recalls self.new.index (uris_to before) (names_in self.old.writer)) }
         ensures same { IsSameBut self.old self.new }
     {
         let own = own_names(&self.writer, &line);
@@ -228,13 +253,19 @@ impl Builder {
         match self.checker.line(alloc, line) {
             Ok(events) => {
                 let values = larger(self.checker.text(), data);
-                match self.judge_names(&events, own, text, values) {
-                    Ok(names) => Ok(Judged { events, names }),
+                let found = recall(alloc, &mut self.index, &self.writer, &events)?;
+                match self.judge_names(&events, found.as_slice(), own, text, values) {
+                    Ok(names) => Ok(Judged {
+                        events,
+                        names,
+                        found,
+                    }),
                     Err(error) => Err(error),
                 }
             }
             Err(EventError::Refused { flaw, completed }) => {
-                Err(self.judge_refused(flaw, &completed, own, text))
+                let found = recall(alloc, &mut self.index, &self.writer, &completed)?;
+                Err(self.judge_refused(flaw, &completed, found.as_slice(), own, text))
             }
             Err(EventError::Memory) => Err(BuildError::Memory),
         }
@@ -245,18 +276,28 @@ impl Builder {
     fn judge_names(
         &self,
         events: &Events,
+        found: &[Option<u32>],
         own: NewNames,
         text: u64,
         values: u64,
     ) -> Result<NameCount, BuildError>
         requires few { self.now.lines < 4294967295 }
         requires small { self.now.limits.text < 2 ^ 32 }
+        requires found { AreFound (names_in self.now.writer) (element_rows events.now) found.now }
+        requires apart { AreApart (element_rows events.now) }
         ensures element { (limits : Limits) (cells : Cells) → Counts self.now limits cells → OnOk result (started_flaw limits (rows_of cells.steps) events.now text ≡ None) }
         ensures good { (limits : Limits) (cells : Cells) (all : Names) → Counts self.now limits cells → Adds (table_names (rows_of cells.steps ++ element_rows events.now)) own all → OnOk result (names_flaw limits all values ≡ None) }
         ensures names { (limits : Limits) (cells : Cells) (all : Names) → Counts self.now limits cells → Adds (table_names (rows_of cells.steps ++ element_rows events.now)) own all → IfOk result (λ names. IsCount names all) }
         ensures flaw { (limits : Limits) (cells : Cells) (all : Names) → Counts self.now limits cells → Adds (table_names (rows_of cells.steps ++ element_rows events.now)) own all → IfErr result (λ error. IsFlawOf (or_flaw (started_flaw limits (rows_of cells.steps) events.now text) (at_line (self.now.lines + 1) (names_flaw limits all values) None)) error) }
     {
-        let started = match judge_element(&self.writer, self.names, &self.limits, events, text) {
+        let started = match judge_element(
+            &self.writer,
+            self.names,
+            &self.limits,
+            events,
+            found,
+            text,
+        ) {
             Ok(started) => started,
             Err(flaw) => return Err(BuildError::Refused(flaw)),
         };
@@ -272,11 +313,27 @@ impl Builder {
 
     // The flaw that comes first: that of the names of a start which was completed without another flaw, or
     // that of the line, with its names counted.
-    fn judge_refused(&self, flaw: Flaw, completed: &Events, own: NewNames, text: u64) -> BuildError
+    fn judge_refused(
+        &self,
+        flaw: Flaw,
+        completed: &Events,
+        found: &[Option<u32>],
+        own: NewNames,
+        text: u64,
+    ) -> BuildError
         requires small { self.now.limits.text < 2 ^ 32 }
+        requires found { AreFound (names_in self.now.writer) (element_rows completed.now) found.now }
+        requires apart { AreApart (element_rows completed.now) }
         ensures { (limits : Limits) (cells : Cells) (all : Names) → Counts self.now limits cells → Adds (table_names (rows_of cells.steps ++ element_rows completed.now)) own all → IsFlawOf (or_flaw (started_flaw limits (rows_of cells.steps) completed.now text) (Some (flaw_with (nat_lt limits.names all.count) flaw))) result }
     {
-        match judge_element(&self.writer, self.names, &self.limits, completed, text) {
+        match judge_element(
+            &self.writer,
+            self.names,
+            &self.limits,
+            completed,
+            found,
+            text,
+        ) {
             Ok(started) => {
                 let many = started.with(own).is_over(&self.limits);
                 BuildError::Refused(with_names(flaw, many))
@@ -296,7 +353,15 @@ impl Builder {
         match self.checker.close(alloc) {
             Ok(_) => Ok(()),
             Err(EventError::Refused { flaw, completed }) => {
-                match judge_element(&self.writer, self.names, &self.limits, &completed, text) {
+                let found = recall(alloc, &mut self.index, &self.writer, &completed)?;
+                match judge_element(
+                    &self.writer,
+                    self.names,
+                    &self.limits,
+                    &completed,
+                    found.as_slice(),
+                    text,
+                ) {
                     Ok(_) => Err(BuildError::Refused(flaw)),
                     Err(first) => Err(BuildError::Refused(first)),
                 }

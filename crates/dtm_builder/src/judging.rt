@@ -4,6 +4,7 @@ ghost use Rattle.doc_model.specs.declared.limits.Limits.{Limits};
 ghost use Rattle.doc_model.specs.Cells.{Cells};
 ghost use Rattle.doc_model.specs.Rows.{rows_of};
 ghost use Rattle.node_writer.specs.Stands as writing;
+ghost use Rattle.node_writer.specs.Known.{AreApart, AreFound, names_in};
 ghost use Rattle.node_writer.specs.New.{AddsNames};
 ghost use Rattle.dtm_builder.specs.Judging.{table_names, IsCount, own_rows, is_element, element_rows, started_flaw, flaw_with, kind_with};
 ghost use Rattle.dtm_builder.specs.Lines.{data_length};
@@ -36,15 +37,18 @@ pub(crate) fn own_names(writer: &NodeWriter, line: &Line) -> NewNames
 }
 
 /// The names after the element that stands first among these events, if one does, or the flaw of its new
-/// names, where the values have this many bytes.
+/// names, where the values have this many bytes. `found` is what the table has of its names.
 pub(crate) fn judge_element(
     writer: &NodeWriter,
     names: NameCount,
     limits: &Limits,
     events: &Events,
+    found: &[Option<u32>],
     values: u64,
 ) -> Result<NameCount, Flaw>
-    requires { limits.now.text < 2 ^ 32 }
+    requires small { limits.now.text < 2 ^ 32 }
+    requires found { AreFound (names_in writer.now) (element_rows events.now) found.now }
+    requires apart { AreApart (element_rows events.now) }
     ensures good { (given : Limits) (cells : Cells) → writing.Stands writer.now given cells → IsCount names (table_names (rows_of cells.steps)) → OnOk result (started_flaw limits.now (rows_of cells.steps) events.now values ≡ None) }
     ensures names { (given : Limits) (cells : Cells) → writing.Stands writer.now given cells → IsCount names (table_names (rows_of cells.steps)) → IfOk result (λ all. IsCount all (table_names (rows_of cells.steps ++ element_rows events.now))) }
     ensures flaw { (given : Limits) (cells : Cells) → writing.Stands writer.now given cells → IsCount names (table_names (rows_of cells.steps)) → IfErr result (λ flaw. started_flaw limits.now (rows_of cells.steps) events.now values ≡ Some flaw) }
@@ -62,7 +66,7 @@ pub(crate) fn judge_element(
             if !is_element(row.kind) {
                 return Ok(names);
             }
-            let all = names.with(writer.new_names(row, attributes.as_slice()));
+            let all = names.with(writer.new_names(row, attributes.as_slice(), found));
             match all.flaw(limits, values) {
                 Some(kind) => Err(Flaw { line: *line, kind }),
                 None => Ok(all),
@@ -72,7 +76,7 @@ pub(crate) fn judge_element(
     }
 }
 
-fn is_element(kind: Kind) -> bool
+pub(crate) fn is_element(kind: Kind) -> bool
     ensures { result ≡ is_element kind }
 {
     kind == Kind::Element

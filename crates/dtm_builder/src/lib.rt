@@ -6,6 +6,7 @@ mod builder;
 mod judging;
 mod laws;
 mod names;
+mod recall;
 mod steps;
 
 pub use build_error::BuildError;

@@ -1,4 +1,5 @@
 mod Holding
+mod Knowing
 mod Lookups
 mod Names
 mod Numbering

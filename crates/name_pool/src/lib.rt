@@ -6,7 +6,9 @@ mod pool_error;
 #[cfg(test)]
 mod tests;
 mod text_numbers;
+mod type_index;
 mod type_numbers;
 
 pub use name_pool::NamePool;
 pub use pool_error::{Memory, PoolError};
+pub use type_index::TypeIndex;

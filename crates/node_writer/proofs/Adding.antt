@@ -193,13 +193,16 @@ not_first : (a b all : Bool) → (a && b) ≡ all → a ≡ false → a ≡ all
 not_first true b all h e = absurd (false≢true (sym e))
 not_first false b all h e = h
 
--- a name or prefix that is new is new after more rows where none of these has it; one that isn't stays so
-pub name_still_new : (before more : List Row) (row : Row) (new there : Bool) → new ≡ has_new_name before row → there ≡ has_type_of row more → new ≡ true → not there ≡ has_new_name (before ++ more) row
-name_still_new before more row new there n t h = both new (not there) _ (ap₂ (λ a b. a && not b) n t ∙ name_new_after before more row) h
+and_true : (b : Bool) → b ≡ (b && true)
+and_true true = refl
+and_true false = refl
 
-pub name_not_new : (before more : List Row) (row : Row) (new : Bool) → new ≡ has_new_name before row → new ≡ false → new ≡ has_new_name (before ++ more) row
-name_not_new before more row new n h = not_first new (not (has_type_of row more)) _ (ap (λ a. a && not (has_type_of row more)) n ∙ name_new_after before more row) h
+-- a name is new after more rows exactly where it is new before them, where none of these has it
+pub name_apart : (before more : List Row) (row : Row) (new : Bool) → new ≡ has_new_name before row → has_type_of row more ≡ false → new ≡ has_new_name (before ++ more) row
+name_apart before more row new n apart =
+    n ∙ and_true (has_new_name before row) ∙ ap (λ b. has_new_name before row && not b) (sym apart) ∙ name_new_after before more row
 
+-- a prefix that is new is new after more rows where none of these has it; one that isn't stays so
 pub prefix_still_new : (before more : List Row) (row : Row) (new there : Bool) → new ≡ has_new_prefix before row → there ≡ has_prefix_of row more → new ≡ true
     → not there ≡ has_new_prefix (before ++ more) row
 prefix_still_new before more row new there n t h = both new (not there) _ (ap₂ (λ a b. a && not b) n t ∙ prefix_new_after before more row) h

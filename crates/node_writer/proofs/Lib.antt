@@ -9,3 +9,4 @@ pub mod Stacks
 pub mod Shutting
 pub mod Joining
 pub mod Adding
+pub mod Knowing

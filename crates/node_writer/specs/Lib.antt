@@ -4,3 +4,4 @@ pub mod Filler
 pub mod Stack
 pub mod Stands
 pub mod New
+pub mod Known

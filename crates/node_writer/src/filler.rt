@@ -5,8 +5,10 @@ ghost use Rattle.doc_model.specs.Lawful.{AllAttributes};
 ghost use Rattle.doc_model.specs.Legal.{IsFresh};
 ghost use Rattle.node_writer.specs.Filled.{FillsTexts, name_texts, name_next, with_new_name, with_new_prefix};
 ghost use Rattle.node_writer.specs.Filler.{FillerStands, NameFits, NameFilled, IsTypeOf, PrefixFits, PrefixFilled, IsPrefixOf, IsGiven, TypeFits, TypeFilled, RowsFit, LinksFit, RowsFilled};
+ghost use Rattle.node_writer.specs.Known.{IsKnown, AreKnown};
 ghost use Rattle.node_writer.specs.Taken.{has_name, name_of_row};
 
+use crate::known::known_at;
 use doc_model::{GrowCells, Kind, NamePlace, Row, RowPlace, text_place};
 use name_pool::{Memory, NamePool, PoolError};
 use std::alloc::Global;
@@ -173,11 +175,19 @@ impl Filler {
         Ok(id)
     }
 
-    /// The type number of a row, whose name is filled if it is new. Fails only for want of memory.
-    fn type_of<C: GrowCells>(&mut self, alloc: Global, c: &mut C, row: &Row) -> Result<u32, Memory>
+    /// The type number of a row: the one that is known, or else that of its name, which is filled if it is
+    /// new. Fails only for want of memory.
+    fn type_of<C: GrowCells>(
+        &mut self,
+        alloc: Global,
+        c: &mut C,
+        row: &Row,
+        known: Option<u32>,
+    ) -> Result<u32, Memory>
         requires going { (document_of (C.cells c.old).steps).ended ≡ None }
         requires stands { FillerStands self.old (C.limits c.old) (C.cells c.old).columns }
         requires given { IsGiven row.now }
+        requires known { IsKnown self.old.pool.names row.now known }
         requires fits { TypeFits self.old (C.limits c.old) row.now }
         ensures ok { OnOk result (TypeFilled self.old self.new (C.limits c.old) (C.cells c.new).columns row.now) }
         ensures number { IfOk result (λ id. IsTypeOf (C.cells c.new).columns id (name_of_row row.now)) }
@@ -188,7 +198,10 @@ impl Filler {
         match row.kind {
             Kind::Text => Ok(TEXT_TYPE),
             Kind::Comment => Ok(COMMENT_TYPE),
-            kind => self.name(alloc, c, kind, row.uri.as_slice(), row.local.as_slice()),
+            kind => match known {
+                Some(id) => Ok(id),
+                None => self.name(alloc, c, kind, row.uri.as_slice(), row.local.as_slice()),
+            },
         }
     }
 
@@ -198,11 +211,13 @@ impl Filler {
         alloc: Global,
         c: &mut C,
         row: &Row,
+        known: Option<u32>,
         links: Links,
     ) -> Result<(), Memory>
         requires going { (document_of (C.cells c.old).steps).ended ≡ None }
         requires stands { FillerStands self.old (C.limits c.old) (C.cells c.old).columns }
         requires given { IsGiven row.now }
+        requires known { IsKnown self.old.pool.names row.now known }
         requires fits { RowsFit self.old (C.limits c.old) (row.now ∷ []) }
         requires links { LinksFit (C.cells c.old).columns row.now links }
         ensures ok { OnOk result (RowsFilled self.old self.new (C.limits c.old) (C.cells c.old).columns (C.cells c.new).columns (row.now ∷ []) links) }
@@ -210,7 +225,7 @@ impl Filler {
         ensures limits { C.limits c.new ≡ C.limits c.old }
         ensures mark { C.mark c.new ≡ C.mark c.old }
     {
-        let type_id = self.type_of(alloc, c, row)?;
+        let type_id = self.type_of(alloc, c, row, known)?;
         let prefix_id = self.prefix(alloc, c, row.prefix.as_slice())?;
         let text_at = self.text(c, row.value.as_slice());
         let place = RowPlace {
@@ -229,19 +244,22 @@ impl Filler {
         Ok(())
     }
 
-    /// Fills the attributes of row `n`, one after the other. Fails only for want of memory.
+    /// Fills the attributes of row `n`, one after the other; what is known of the first stands behind what is
+    /// known of the row. Fails only for want of memory.
     pub(crate) fn attributes<C: GrowCells>(
         &mut self,
         alloc: Global,
         c: &mut C,
         n: u32,
         attributes: &[Row],
+        known: &[Option<u32>],
     ) -> Result<(), Memory>
         requires going { (document_of (C.cells c.old).steps).ended ≡ None }
         requires stands { FillerStands self.old (C.limits c.old) (C.cells c.old).columns }
         requires parent { n < length (C.cells c.old).columns.places }
         requires carried { AllAttributes (place_at (C.cells c.old).columns n).depth attributes.now }
         requires fits { RowsFit self.old (C.limits c.old) attributes.now }
+        requires known { AreKnown 1 self.old.pool.names attributes.now known.now }
         ensures ok { OnOk result (RowsFilled self.old self.new (C.limits c.old) (C.cells c.old).columns (C.cells c.new).columns attributes.now (record { parent = n; prev = None; attributes = 0 })) }
         ensures steps { (C.cells c.new).steps ≡ (C.cells c.old).steps }
         ensures limits { C.limits c.new ≡ C.limits c.old }
@@ -252,8 +270,8 @@ impl Filler {
             prev: None,
             attributes: 0,
         };
-        for attribute in attributes {
-            self.row(alloc, c, attribute, links)?;
+        for at in 0..attributes.len() {
+            self.row(alloc, c, &attributes[at], known_at(known, at + 1), links)?;
         }
         Ok(())
     }

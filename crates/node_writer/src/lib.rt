@@ -2,6 +2,7 @@
 #![tactic(auto)]
 
 mod filler;
+mod known;
 mod new_names;
 mod open_row;
 mod writer;

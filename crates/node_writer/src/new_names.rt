@@ -1,14 +1,16 @@
 // What a Node would add to the names of a table, without a change to it.
-ghost use Rattle.std.specs.Prelude.{◌≡◌, ◌+◌, ◌==◌, ◌&&◌, ◌∷◌, ◌++◌, ℕ, not, if◌then◌else◌, length};
+ghost use Rattle.std.specs.Prelude.{◌≡◌, ◌+◌, ◌&&◌, ◌∷◌, ◌++◌, ℕ, not, List, if◌then◌else◌, length};
 ghost use Rattle.std.specs.Str.{bytes_eq};
 ghost use Rattle.doc_model.specs.declared.limits.Limits.{Limits};
 ghost use Rattle.doc_model.specs.Cells.{Cells};
-ghost use Rattle.doc_model.specs.Numbers.{kind_number};
 ghost use Rattle.doc_model.specs.Rows.{rows_of};
 ghost use Rattle.node_writer.specs.Stands.{Stands};
-ghost use Rattle.node_writer.specs.Taken.{is_same, is_name_of, names_of, name_of_row};
-ghost use Rattle.node_writer.specs.New.{capped, has_new_name, has_new_prefix, has_type_of, has_prefix_of, AddsNames};
+ghost use Rattle.node_writer.specs.Known.{AreApart, AreFound, IsFound, names_in};
+ghost use Rattle.node_writer.specs.Taken.{has_name, is_name_of, names_of, name_of_row};
+ghost use Rattle.node_writer.specs.New.{capped, has_new_prefix, has_prefix_of, AddsNames};
+ghost use Rattle.name_pool.specs.Names.{Name};
 
+use crate::known::known_at;
 use crate::writer::NodeWriter;
 use doc_model::{Kind, Row};
 
@@ -62,30 +64,41 @@ impl NodeWriter {
         self.filler.pool.find(kind, uri, local).is_none()
     }
 
-    /// The names and prefixes that a Node would add, each counted once, and their bytes. Costs a look-up of
-    /// each name, and for each that is new the attributes before it. Takes no memory.
-    pub fn new_names(&self, row: &Row, attributes: &[Row]) -> NewNames
+    /// The type number of a row's name, if the table has it. Takes no memory. Costs the bytes of the local
+    /// name, and where a name of the table has that one, those of the URI, each times a logarithm.
+    pub fn type_number(&self, row: &Row) -> Option<u32>
+        ensures { IsFound (names_in self.now) row.now result }
+    {
+        if has_name(row.kind) {
+            self.filler
+                .pool
+                .find(row.kind, row.uri.as_slice(), row.local.as_slice())
+        } else {
+            None
+        }
+    }
+
+    /// The names and prefixes that a Node would add, each counted once, and their bytes. `found` has what
+    /// `type_number` gives of the row and then of each attribute, and no two of these have one name. Costs a
+    /// look-up of each prefix, and for each that is new the prefixes before it. Takes no memory.
+    pub fn new_names(&self, row: &Row, attributes: &[Row], found: &[Option<u32>]) -> NewNames
+        requires found { AreFound (names_in self.now) (row.now ∷ attributes.now) found.now }
+        requires apart { AreApart (row.now ∷ attributes.now) }
         ensures { (limits : Limits) (cells : Cells) → Stands self.now limits cells → AddsNames (rows_of cells.steps) (row.now ∷ attributes.now) result }
     {
         let none = NewNames { count: 0, bytes: 0 };
-        let mut new = none.with_row(row, self.is_new_type(row), self.is_new_prefix(row));
+        let mut new = none.with_row(
+            row,
+            is_new_type(row, known_at(found, 0)),
+            self.is_new_prefix(row),
+        );
         for at in 0..attributes.len() {
             let attribute = &attributes[at];
-            let earlier = &attributes[..at];
-            let name = self.is_type_new_after(row, earlier, attribute);
-            let prefix = self.is_prefix_new_after(row, earlier, attribute);
+            let name = is_new_type(attribute, known_at(found, at + 1));
+            let prefix = self.is_prefix_new_after(row, &attributes[..at], attribute);
             new = new.with_row(attribute, name, prefix);
         }
         new
-    }
-
-    fn is_new_type(&self, row: &Row) -> bool
-        ensures { (limits : Limits) (cells : Cells) → Stands self.now limits cells → result ≡ has_new_name (rows_of cells.steps) row.now }
-    {
-        match row.kind {
-            Kind::Root | Kind::Text | Kind::Comment => false,
-            kind => self.is_new_name(kind, row.uri.as_slice(), row.local.as_slice()),
-        }
     }
 
     fn is_new_prefix(&self, row: &Row) -> bool
@@ -97,13 +110,6 @@ impl NodeWriter {
             .is_none()
     }
 
-    // Whether a row's type is new after those of an element and of attributes.
-    fn is_type_new_after(&self, element: &Row, attributes: &[Row], row: &Row) -> bool
-        ensures { (limits : Limits) (cells : Cells) → Stands self.now limits cells → result ≡ has_new_name (rows_of cells.steps ++ element.now ∷ attributes.now) row.now }
-    {
-        self.is_new_type(row) && !has_type(element, attributes, row)
-    }
-
     // Whether a row's prefix is new after those of an element and of attributes.
     fn is_prefix_new_after(&self, element: &Row, attributes: &[Row], row: &Row) -> bool
         ensures { (limits : Limits) (cells : Cells) → Stands self.now limits cells → result ≡ has_new_prefix (rows_of cells.steps ++ element.now ∷ attributes.now) row.now }
@@ -112,16 +118,17 @@ impl NodeWriter {
     }
 }
 
-fn has_type(element: &Row, attributes: &[Row], row: &Row) -> bool
-    ensures { result ≡ has_type_of row.now (element.now ∷ attributes.now) }
+// Whether the table doesn't have the row's name, by what was found of it.
+fn is_new_type(row: &Row, found: Option<u32>) -> bool
+    ensures { (names : List Name) → IsFound names row.now found → result ≡ (has_name row.now.kind && not (is_name_of (name_of_row row.now) names)) }
 {
-    is_same_type(row, element) || is_type_among(attributes, row)
+    has_name(row.kind) && found.is_none()
 }
 
-fn is_type_among(rows: &[Row], row: &Row) -> bool
-    ensures { result ≡ has_type_of row.now rows.now }
+fn has_name(kind: Kind) -> bool
+    ensures { result ≡ has_name kind }
 {
-    rows.iter().any(|other| is_same_type(row, other))
+    matches!(kind, Kind::Element | Kind::Attribute | Kind::Instruction)
 }
 
 fn has_prefix(element: &Row, attributes: &[Row], row: &Row) -> bool
@@ -140,19 +147,4 @@ fn is_same_prefix(row: &Row, other: &Row) -> bool
     ensures { result ≡ bytes_eq row.now.prefix other.now.prefix }
 {
     row.prefix.as_slice() == other.prefix.as_slice()
-}
-
-// Local names first: a new name under a URI of many bytes costs these only beside its equal.
-fn is_same_type(row: &Row, other: &Row) -> bool
-    ensures { result ≡ is_same (name_of_row row.now) (name_of_row other.now) }
-{
-    is_same_kind(row.kind, other.kind)
-        && row.local.as_slice() == other.local.as_slice()
-        && row.uri.as_slice() == other.uri.as_slice()
-}
-
-fn is_same_kind(kind: Kind, other: Kind) -> bool
-    ensures { result ≡ (kind_number kind == kind_number other) }
-{
-    kind == other
 }

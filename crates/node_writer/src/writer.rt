@@ -4,10 +4,12 @@ ghost use Rattle.doc_model.specs.Cells.{empty_cells};
 ghost use Rattle.doc_model.specs.Document.{document_of};
 ghost use Rattle.doc_model.specs.Lawful.{CanStep};
 ghost use Rattle.doc_model.specs.Rows.{rows_of};
+ghost use Rattle.node_writer.specs.Known.{AreKnown, names_in};
 ghost use Rattle.node_writer.specs.Taken.{HasRoom};
 ghost use Rattle.node_writer.specs.Stands.{Stands};
 
 use crate::filler::{Filler, Links};
+use crate::known::known_at;
 use crate::open_row::{OpenRow, count_joined, innermost};
 use doc_model::{GrowCells, Limits, Row, Verdict};
 use lists::List;
@@ -47,20 +49,24 @@ impl NodeWriter {
         Ok(NodeWriter { filler, stack })
     }
 
-    /// Appends a Node: fills its new names and prefixes, its row and its attributes, and joins them. Costs
-    /// the bytes of the row and the attributes, and a look-up of each name. Fails only for want of memory:
-    /// then no step was made, and what was filled can't be read; the table can still be finished.
+    /// Appends a Node: fills its new names and prefixes, its row and its attributes, and joins them. `known`
+    /// has the type numbers that are known, the row's first. Costs the bytes of prefixes, local names and
+    /// values, a look-up of each prefix, and one of each name whose type number isn't known: that alone reads
+    /// the bytes of a URI. Fails only for want of memory: then no step was made, and what was filled can't be
+    /// read; the table can still be finished.
     pub fn node<C: GrowCells>(
         &mut self,
         alloc: Global,
         c: &mut C,
         row: &Row,
         attributes: &[Row],
+        known: &[Option<u32>],
     ) -> Result<(), Memory>
         requires stands { Stands self.old (C.limits c.old) (C.cells c.old) }
         requires going { (document_of (C.cells c.old).steps).ended ≡ None }
         requires may { CanStep (document_of (C.cells c.old).steps) (Node row.now attributes.now) }
         requires room { HasRoom (C.limits c.old) (rows_of (C.cells c.old).steps ++ row.now ∷ attributes.now) }
+        requires known { AreKnown 0 (names_in self.old) (row.now ∷ attributes.now) known.now }
         ensures stands { OnOk result (Stands self.new (C.limits c.new) (C.cells c.new)) }
         ensures steps { OnOk result ((C.cells c.new).steps ≡ (C.cells c.old).steps ++ Node row.now attributes.now ∷ []) }
         ensures err { OnErr result ((C.cells c.new).steps ≡ (C.cells c.old).steps) }
@@ -74,8 +80,8 @@ impl NodeWriter {
             prev: around.last,
             attributes: attributes.len() as u32,
         };
-        self.filler.row(alloc, c, row, links)?;
-        self.filler.attributes(alloc, c, n, attributes)?;
+        self.filler.row(alloc, c, row, known_at(known, 0), links)?;
+        self.filler.attributes(alloc, c, n, attributes, known)?;
         count_joined(&mut self.stack, n, row.kind)?;
         c.join(n, around.join());
         Ok(())

@@ -5,3 +5,4 @@ pub mod Least
 pub mod Numbered
 pub mod Unbound
 pub mod Expanded
+pub mod Among

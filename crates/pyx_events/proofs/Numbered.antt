@@ -1,5 +1,6 @@
 -- Rows that are told by the numbers of their URIs.
-use Rattle.std.proofs.Common.{◌≡◌, ◌<◌, ℕ, zero, suc, List, [], ◌∷◌, ◌++◌, true, false, ◌==◌, Some, refl, arith, sym, ◌∙◌, ap, drop, take, length, get_or, ⊎_elim}
+use Rattle.std.proofs.lemmas.List.{take_all}
+use Rattle.std.proofs.Common.{◌≡◌, ◌<◌, ◌-◌, ℕ, zero, suc, List, [], ◌∷◌, ◌++◌, true, false, ◌==◌, Some, refl, arith, sym, ◌∙◌, ap, drop, take, length, get_or, ⊎_elim}
 use Rattle.std.specs.Prelude.{slice_get}
 use Rattle.std.specs.Str.{bytes_eq}
 use Rattle.std.specs.Cmp.Lexicographic.{bytes_decides}
@@ -81,3 +82,10 @@ numbers_are uris [] [] apart are = refl
 numbers_are uris [] (n ∷ numbers) apart are = absurd are
 numbers_are uris (row ∷ rows) [] apart are = absurd are
 numbers_are uris (row ∷ rows) (n ∷ numbers) apart are = rw (number_told uris row.uri n apart are.0, ← numbers_are uris rows numbers apart are.1) refl
+
+-- the numbers behind the first are those of the attributes
+pub of_attributes : (uris : List (List ℕ)) (row : Row) (rows : List Row) (numbers : List ℕ) → AreNumbered uris (row ∷ rows) numbers → AreNumbered uris rows (take (length numbers - 1) (drop 1 numbers))
+of_attributes uris row rows [] are = absurd are
+of_attributes uris row rows (n ∷ numbers) are =
+    let all : take (length (n ∷ numbers) - 1) numbers ≡ numbers = take_all (length (n ∷ numbers) - 1) numbers (omega arith) in
+    rw all are.1

@@ -64,9 +64,9 @@ abbrev pub element_node : List (List ℕ) → List Binding → ℕ → PendingSt
 element_node uris bound depth start =
     numbered_node uris (element_row bound depth start.name) (attribute_rows bound (depth + 1) start.attributes) (declarations start.attributes) start.line
 
--- the node of a row without a URI, which has number 0
+-- the node of a row without a URI, which has no number
 abbrev pub plain_node : Row → ℕ → Event
-plain_node row line = Node row [] [] (0 ∷ []) line
+plain_node row line = Node row [] [] [] line
 
 -- the node of a start, if there is one
 abbrev pub start_node : List (List ℕ) → List Binding → ℕ → Option PendingStart → List Event

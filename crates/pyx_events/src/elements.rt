@@ -49,7 +49,7 @@ pub struct NumberedRow {
     pub number: u32,
 }
 
-/// Rows with the numbers of their URIs.
+/// An element's attributes, and the numbers of the URIs of the element and then of these.
 #[derive(Drop)]
 pub struct NumberedRows {
     pub rows: List<Row>,
@@ -123,20 +123,23 @@ fn attribute_row(
     })
 }
 
-// The rows of the attribute lines that declare nothing.
+// The rows of the attribute lines that declare nothing. Memory for all numbers is taken at once.
 fn attribute_rows(
     alloc: Global,
     scopes: &Scopes,
     depth: u32,
+    element: &NumberedRow,
     lines: List<Attribute>,
 ) -> Result<NumberedRows, StartError>
+    requires { slice_get scopes.now.uris element.now.number ≡ Some element.now.row.uri }
     ensures rows { IfOk result (λ it. it.rows ≡ attribute_rows (all_bindings scopes.now.scopes) depth lines) }
-    ensures numbers { IfOk result (λ it. AreNumbered scopes.now.uris it.rows it.numbers) }
+    ensures numbers { IfOk result (λ it. AreNumbered scopes.now.uris (element.now.row ∷ it.rows) it.numbers) }
     ensures good { OnOk result (list_any (attribute_unbound (all_bindings scopes.now.scopes)) lines ≡ false) }
     ensures flawed { IfErr result (λ error. IfSome (kind_in error) (λ kind. (kind ≡ UnboundPrefix) × IsTrue (list_any (attribute_unbound (all_bindings scopes.now.scopes)) lines))) }
 {
     let mut rows = List::new(alloc);
-    let mut numbers = List::new(alloc);
+    let mut numbers = List::from_vec(Vec::with_capacity(alloc, lines.len().saturating_add(1))?);
+    numbers.push(element.number)?;
     for it in lines.into_vec() {
         if !is_declaration(it.name.as_slice()) {
             let NumberedRow { row, number } = attribute_row(alloc, scopes, depth, it)?;
@@ -255,32 +258,38 @@ fn repeats(
     }
 }
 
+// The numbers of the attributes' URIs, which stand behind that of the element's.
+#[tactic(auto, using(crate::proofs::Numbered::of_attributes))]
+fn attribute_numbers<'a>(
+    scopes: &Scopes,
+    element: &NumberedRow,
+    attributes: &'a NumberedRows,
+) -> &'a [u32]
+    requires { AreNumbered scopes.now.uris (element.now.row ∷ attributes.now.rows) attributes.now.numbers }
+    ensures { AreNumbered scopes.now.uris attributes.now.rows result.now }
+{
+    &attributes.numbers.as_slice()[1..]
+}
+
 // The node of an element's row and attributes.
 fn element_node(
-    alloc: Global,
     scopes: &Scopes,
     element: NumberedRow,
     attributes: NumberedRows,
     declarations: List<Binding>,
     line: u64,
-) -> Result<Event, AllocError>
-    requires row { slice_get scopes.now.uris element.number ≡ Some element.row.uri }
-    requires rows { AreNumbered scopes.now.uris attributes.rows attributes.numbers }
-    ensures { IfOk result (λ event. event ≡ numbered_node scopes.now.uris element.row attributes.rows declarations line) }
+) -> Event
+    requires { AreNumbered scopes.now.uris (element.row ∷ attributes.rows) attributes.numbers }
+    ensures { result ≡ numbered_node scopes.now.uris element.row attributes.rows declarations line }
 {
     scopes.numbers_tell_uris();
-    let NumberedRow { row, number } = element;
-    let NumberedRows { rows, numbers } = attributes;
-    let mut uris = List::new(alloc);
-    uris.push(number)?;
-    uris.append(numbers)?;
-    Ok(Event::Node {
-        row,
-        attributes: rows,
+    Event::Node {
+        row: element.row,
+        attributes: attributes.rows,
         declarations,
-        uris,
+        uris: attributes.numbers,
         line,
-    })
+    }
 }
 
 /// The node of an element, or its flaw, names aside. Costs in the order of the bytes of its lines, of
@@ -303,16 +312,16 @@ pub fn element_events(
     } = start;
     let element = element_row(alloc, scopes, depth, name.as_slice())?;
     let declarations = declarations(alloc, lines.as_slice())?;
-    let attributes = attribute_rows(alloc, scopes, depth + 1, lines)?;
+    let attributes = attribute_rows(alloc, scopes, depth + 1, &element, lines)?;
     if repeats(
         alloc,
         scopes,
         attributes.rows.as_slice(),
-        attributes.numbers.as_slice(),
+        attribute_numbers(scopes, &element, &attributes),
     )? {
         return Err(StartError::Flawed(FlawKind::DuplicateAttr));
     }
     let mut events = List::new(alloc);
-    events.push(element_node(alloc, scopes, element, attributes, declarations, line)?)?;
+    events.push(element_node(scopes, element, attributes, declarations, line))?;
     Ok(events)
 }

@@ -12,8 +12,8 @@ pub enum Event {
         attributes: List<Row>,
         /// The element's declarations, in the order of their lines, without those of `xml` and `xmlns`.
         declarations: List<Binding>,
-        /// The numbers of the URIs of the row and then of its attributes: equal URIs of a source have equal
-        /// numbers, and other URIs other ones. The empty URI has 0.
+        /// The numbers of the URIs of an element and then of its attributes: equal URIs of a source have
+        /// equal numbers, and other URIs other ones. The empty URI has 0. Other rows have none.
         uris: List<u32>,
         /// The number of the line, counted from 1: of an element's start, of a text the line that ends it.
         line: u64,

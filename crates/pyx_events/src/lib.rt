@@ -23,5 +23,5 @@ pub use event::{Event, Events};
 pub use event_error::EventError;
 pub use laws::{
     a_source_without_a_flaw_has_flawless_lines, first_flaw_is_judged_at_the_least_line,
-    flawless_lines_begin_a_source,
+    flawless_lines_begin_a_source, numbers_stand_for_uris,
 };

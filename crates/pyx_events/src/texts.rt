@@ -33,7 +33,7 @@ pub fn with_text(
         },
         attributes: List::new(alloc),
         declarations: List::new(alloc),
-        uris: no_uri(alloc)?,
+        uris: List::new(alloc),
         line,
     })?;
     Ok(all)
@@ -62,7 +62,7 @@ pub fn with_instruction(
         },
         attributes: List::new(alloc),
         declarations: List::new(alloc),
-        uris: no_uri(alloc)?,
+        uris: List::new(alloc),
         line,
     })?;
     Ok(all)
@@ -90,17 +90,8 @@ pub fn with_comment(
         },
         attributes: List::new(alloc),
         declarations: List::new(alloc),
-        uris: no_uri(alloc)?,
+        uris: List::new(alloc),
         line,
     })?;
     Ok(all)
-}
-
-// The number of the empty URI.
-fn no_uri(alloc: Global) -> Result<List<u32>, AllocError>
-    ensures { IfOk result (λ uris. uris ≡ 0 ∷ []) }
-{
-    let mut uris = List::new(alloc);
-    uris.push(0)?;
-    Ok(uris)
 }

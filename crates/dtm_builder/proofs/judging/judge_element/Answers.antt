@@ -5,10 +5,32 @@ use Rattle.doc_model.specs.Rows.{rows_of}
 use Rattle.pyx_events.specs.declared.event.Event.{Event}
 use Rattle.pyx_events.specs.declared.event.Event.TheVariants.{Node}
 use Rattle.pyx_events.specs.Flaw.{at_line, names_flaw}
+use Rattle.node_writer.specs.Known.{AreApart, AreFound, names_in}
 use Rattle.node_writer.specs.New.{AddsNames}
 use Rattle.dtm_builder.specs.Judging.{table_names, IsCount, is_element}
 use Rattle.dtm_builder.proofs.Elements.{at_first, rows_first, flaw_first, adds_of}
 use Rattle.dtm_builder.proofs.judging.judge_element.Goals as goal
+
+pub new_names-requires-clause-found : goal.new_names-requires-clause-found
+new_names-requires-clause-found c =
+    let w = c.in-Some-Node in
+    let events = c.args.events.now in
+    let node : Event = Node w.row w.attributes w.field-0-2 w.field-0-3 w.line in
+    let first = at_first events node (sym w.ensures.value ∙ ap (λ (x : Event). Some x) w.field-0-is) in
+    let is : is_element w.row.kind ≡ true = sym c.is_element.ensures ∙ c.if-not-is_element.false in
+    let rows = rows_first events first.0 w.row w.attributes w.field-0-2 w.field-0-3 w.line first.1 is in
+    let names = names_in c.args.writer.now in
+    subst (λ (more : List Row). AreFound names (w.row ∷ more) c.args.found.now) (sym c.as_slice.ensures) (subst (λ (all : List Row). AreFound names all c.args.found.now) rows c.requires.found)
+
+pub new_names-requires-clause-apart : goal.new_names-requires-clause-apart
+new_names-requires-clause-apart c =
+    let w = c.in-Some-Node in
+    let events = c.args.events.now in
+    let node : Event = Node w.row w.attributes w.field-0-2 w.field-0-3 w.line in
+    let first = at_first events node (sym w.ensures.value ∙ ap (λ (x : Event). Some x) w.field-0-is) in
+    let is : is_element w.row.kind ≡ true = sym c.is_element.ensures ∙ c.if-not-is_element.false in
+    let rows = rows_first events first.0 w.row w.attributes w.field-0-2 w.field-0-3 w.line first.1 is in
+    subst (λ (more : List Row). AreApart (w.row ∷ more)) (sym c.as_slice.ensures) (subst (λ (all : List Row). AreApart all) rows c.requires.apart)
 
 pub returns-in-Some-clause-flaw : goal.returns-in-Some-clause-flaw
 returns-in-Some-clause-flaw c given cells s n =

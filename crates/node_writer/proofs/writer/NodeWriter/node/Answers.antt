@@ -1,4 +1,4 @@
-use Rattle.std.proofs.Common.{◌≡◌, ◌∙◌, ◌++◌, ◌∷◌, ap, ap₂, sym, length, subst, [], refl}
+use Rattle.std.proofs.Common.{ℕ, Option, ◌≡◌, ◌∙◌, ◌++◌, ◌∷◌, ap, ap₂, sym, length, subst, [], refl}
 use Rattle.doc_model.specs.declared.limits.Limits.{Limits}
 use Rattle.doc_model.specs.declared.step.Step.{Step}
 use Rattle.doc_model.specs.declared.step.Step.TheVariants.{Node}
@@ -8,8 +8,10 @@ use Rattle.doc_model.specs.Legal.{how_of}
 use Rattle.node_writer.specs.declared.filler.Links.{Links}
 use Rattle.node_writer.specs.declared.open_row.OpenRow.{OpenRow}
 use Rattle.node_writer.specs.Filler.{FillerStands, LinksFit, RowsFit, RowsFilled}
+use Rattle.node_writer.specs.Known.{IsKnown}
 use Rattle.node_writer.specs.Stands.{Stands}
 use Rattle.node_writer.proofs.Attributes.{attribute_links}
+use Rattle.node_writer.proofs.Knowing.{known_first, known_rest_still}
 use Rattle.node_writer.proofs.Shutting.{stack_some}
 use Rattle.node_writer.proofs.Joining.{row_is_given, row_fits, links_fit, row_is_there, attributes_carried, attributes_fit, node_here, join_fits, joined_still}
 use Rattle.node_writer.proofs.writer.NodeWriter.node.Goals as goal
@@ -28,6 +30,8 @@ row-requires g c =
       stands = c.requires.stands.filler;
       given = row_is_given w limits cells c.args.row.now c.args.attributes.now c.requires.stands c.requires.going c.requires.may c.requires.room;
       fits = row_fits w limits cells c.args.row.now c.args.attributes.now c.requires.stands c.requires.going c.requires.may c.requires.room;
+      known = subst (λ (k : Option ℕ). IsKnown w.filler.pool.names c.args.row.now k) (sym c.known_at.ensures)
+          (known_first w.filler.pool.names c.args.row.now c.args.attributes.now c.args.known.now c.requires.known);
       links = subst (λ (o : OpenRow). LinksFit cells.columns c.args.row.now (links o)) (sym c.innermost-around.ensures)
           (links_fit w limits cells c.args.row.now c.args.attributes.now c.requires.stands c.requires.going c.requires.may c.requires.room (length c.args.attributes.now) refl);
     }
@@ -43,6 +47,8 @@ attributes-requires g c =
       going = ap (λ steps. (document_of steps).ended) c.row.ensures.steps ∙ c.requires.going;
       stands = subst (λ (l : Limits). FillerStands c.row.new.self l columns) same c.in_ok-row.ensures.ok.stands;
       parent = row_is_there w limits cells c.args.row.now c.args.attributes.now c.requires.stands c.requires.going c.requires.may c.requires.room c.row.new.self columns _ c.in_ok-row.ensures.ok;
+      known = known_rest_still w.filler.pool.names c.row.new.self.pool.names c.args.row.now c.args.attributes.now c.args.known.now c.in_ok-row.ensures.ok.names
+          c.requires.known;
       carried = attributes_carried w limits cells c.args.row.now c.args.attributes.now c.requires.stands c.requires.going c.requires.may c.requires.room c.row.new.self columns _ c.in_ok-row.ensures.ok;
       fits = subst (λ (l : Limits). RowsFit c.row.new.self l c.args.attributes.now) same
           (attributes_fit w limits cells c.args.row.now c.args.attributes.now c.requires.stands c.requires.going c.requires.may c.requires.room c.row.new.self columns _ c.in_ok-row.ensures.ok);
