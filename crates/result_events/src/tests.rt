@@ -102,3 +102,12 @@ fn twelve_attributes_stand_once_each(rt: HostRuntime) -> Result<(), Fail> {
     assert_eq!(rt; tidy(alloc, events.events())?, wanted);
     Ok(())
 }
+
+#[test]
+fn a_list_is_added_behind(rt: HostRuntime) -> Result<(), Fail> {
+    let alloc = rt.alloc();
+    let mut buffer = pushed(alloc, "(t")?;
+    buffer.append(alloc, pushed(alloc, "u)")?.into_events())?;
+    assert_eq!(rt; buffer.into_events(), pushed(alloc, "(tu)")?.into_events());
+    Ok(())
+}

@@ -7,6 +7,7 @@ use Rattle.doc_model.specs.declared.node_test.Test.TheVariants as test
 use Rattle.doc_model.specs.declared.row.Axis.TheVariants as axis
 use Rattle.doc_model.specs.Answers.{Stays}
 use Rattle.doc_model.specs.Document.{is_member}
+use Rattle.xpath_funcs.specs.Spaces.{words}
 use Rattle.xpath_syntax.specs.declared.pattern.Pattern.{Pattern}
 use Rattle.xpath_syntax.specs.declared.pattern.PatternPath.{PatternPath}
 use Rattle.xpath_syntax.specs.declared.pattern.PatternStart.{PatternStart}
@@ -14,10 +15,10 @@ use Rattle.xpath_syntax.specs.declared.pattern.PatternStart.TheVariants as start
 use Rattle.xpath_syntax.specs.declared.pattern.PatternStep.{PatternStep}
 use Rattle.xpath_meaning.specs.declared.context.Size.{Size}
 use Rattle.xpath_meaning.specs.Conversions.{first_of}
-use Rattle.xpath_meaning.specs.Match.{MatchStep, match_step, fits, beside, size_of, context_at, says, position_in, passes, passes_all, fits_below, is_step_to, sources, is_found_by_key, starts, leads, match_path, match_of}
+use Rattle.xpath_meaning.specs.Match.{MatchStep, match_step, fits, beside, size_of, context_at, says, position_in, passes, passes_all, fits_below, is_step_to, sources, is_found_by_ids, is_found_by_key, starts, leads, match_path, match_of}
 use Rattle.xpath_meaning.specs.Meanings.{Meant}
 use Rattle.xpath_meaning.specs.Reading.{Reading, Extends}
-use Rattle.xpath_laws.proofs.Staying.{bind_stays, if_stays, some_stays, kept_stays}
+use Rattle.xpath_laws.proofs.Staying.{bind_stays, if_stays, some_stays, each_stays, kept_stays}
 use Rattle.xpath_laws.proofs.Keeping.{MeantKeeps, AllKeep, holds_keeps}
 use Rattle.xpath_laws.proofs.Expressions.{step_keeps}
 
@@ -53,6 +54,9 @@ sources_stay : (R Q : Reading) → Extends R Q → (deep : Bool) (n : ℕ) → S
 sources_stay R Q x true n = x.axis axis.Ancestor test.Any n
 sources_stay R Q x false n = x.axis axis.Parent test.Any n
 
+by_ids_stays : (R Q : Reading) → Extends R Q → (ids : List ℕ) (n : ℕ) → Stays (is_found_by_ids R ids n) (is_found_by_ids Q ids n)
+by_ids_stays R Q x ids n = bind_stays _ _ _ _ x.whole (λ shut. bind_stays _ _ _ _ (each_stays (λ id. R.by_id id) (λ id. Q.by_id id) (words ids) (λ id. x.by_id id)) (λ lists. refl))
+
 by_key_stays : (R Q : Reading) → Extends R Q → (slot : Option ℕ) (value : List ℕ) (n : ℕ) → Stays (is_found_by_key R slot value n) (is_found_by_key Q slot value n)
 by_key_stays R Q x None value n = refl
 by_key_stays R Q x (Some key) value n = bind_stays _ _ _ _ (x.by_key key value) (λ nodes. refl)
@@ -61,7 +65,7 @@ starts_stay : (R Q : Reading) → Extends R Q → (s : PatternStart) (n : ℕ) �
 starts_stay R Q x start.Relative n = refl
 starts_stay R Q x start.Root n = refl
 starts_stay R Q x start.Deep n = refl
-starts_stay R Q x (start.Id id) n = bind_stays _ _ _ _ (x.by_id id) (λ nodes. refl)
+starts_stay R Q x (start.Id ids) n = by_ids_stays R Q x ids n
 starts_stay R Q x (start.Key name value) n = by_key_stays R Q x name.slot value n
 
 abbrev AllFit : List MatchStep → Type 0

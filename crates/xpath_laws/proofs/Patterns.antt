@@ -6,6 +6,7 @@ use Rattle.doc_model.specs.declared.node_test.Test.{Test}
 use Rattle.doc_model.specs.declared.node_test.Test.TheVariants as test
 use Rattle.doc_model.specs.declared.row.Axis.TheVariants as axis
 use Rattle.doc_model.specs.Document.{is_member}
+use Rattle.xpath_funcs.specs.Spaces.{words}
 use Rattle.xpath_syntax.specs.declared.pattern.Pattern.{Pattern}
 use Rattle.xpath_syntax.specs.declared.pattern.PatternPath.{PatternPath}
 use Rattle.xpath_syntax.specs.declared.pattern.PatternStart.{PatternStart}
@@ -13,12 +14,12 @@ use Rattle.xpath_syntax.specs.declared.pattern.PatternStart.TheVariants as start
 use Rattle.xpath_syntax.specs.declared.pattern.PatternStep.{PatternStep}
 use Rattle.xpath_meaning.specs.declared.context.Size.{Size}
 use Rattle.xpath_meaning.specs.Conversions.{first_of}
-use Rattle.xpath_meaning.specs.Match.{MatchStep, match_step, fits, beside, size_of, context_at, says, position_in, passes, passes_all, fits_below, is_step_to, sources, is_found_by_key, starts, leads, match_path, match_of}
+use Rattle.xpath_meaning.specs.Match.{MatchStep, match_step, fits, beside, size_of, context_at, says, position_in, passes, passes_all, fits_below, is_step_to, sources, is_found_by_ids, is_found_by_key, starts, leads, match_path, match_of}
 use Rattle.xpath_meaning.specs.Meanings.{Meant}
-use Rattle.xpath_meaning.specs.Outcome.{kept_from}
+use Rattle.xpath_meaning.specs.Outcome.{each_of, kept_from}
 use Rattle.xpath_meaning.specs.Reading.{Reading}
 use Rattle.xpath_laws.specs.Sound.{Rows, Tells, Anything, Each, IsReading}
-use Rattle.xpath_laws.proofs.Tells.{Left, Perhaps, bind_tells, if_tells, some_tells, kept_tells, each_append}
+use Rattle.xpath_laws.proofs.Tells.{Left, Perhaps, bind_tells, if_tells, some_tells, each_tells, kept_tells, each_append}
 use Rattle.xpath_laws.proofs.Sounding.{MeantSound, holds_sound, first_perhaps}
 use Rattle.xpath_laws.proofs.Trees.{step_sound}
 use Rattle.xpath_laws.proofs.Says.{each_anything}
@@ -62,6 +63,11 @@ module _ (T O : Rows) (R : Reading) (x : IsReading T O R) where
   sources_told true n t = x.axis axis.Ancestor test.Any n t
   sources_told false n t = x.axis axis.Parent test.Any n t
 
+  by_ids_told : (ids : List ℕ) (n : ℕ) → Tells O Anything (is_found_by_ids R ids n)
+  by_ids_told ids n =
+      bind_tells O Anything Anything R.whole _ x.whole
+      (λ shut p. bind_tells O (Each (Each T)) Anything (each_of (λ id. R.by_id id) (words ids)) _ (each_tells O Anything (Each T) (λ id. R.by_id id) (words ids) (each_anything (words ids)) (λ id q. x.by_id id)) (λ lists b. tt))
+
   by_key_told : (slot : Option ℕ) (value : List ℕ) (n : ℕ) → Tells O Anything (is_found_by_key R slot value n)
   by_key_told None value n = tt
   by_key_told (Some key) value n = bind_tells O (Each T) Anything (R.by_key key value) _ (x.by_key key value) (λ nodes a. tt)
@@ -70,7 +76,7 @@ module _ (T O : Rows) (R : Reading) (x : IsReading T O R) where
   starts_told start.Relative n = tt
   starts_told start.Root n = tt
   starts_told start.Deep n = tt
-  starts_told (start.Id id) n = bind_tells O (Each T) Anything (R.by_id id) _ (x.by_id id) (λ nodes a. tt)
+  starts_told (start.Id ids) n = by_ids_told ids n
   starts_told (start.Key name value) n = by_key_told name.slot value n
 
   abbrev AllFit : List MatchStep → Type 0

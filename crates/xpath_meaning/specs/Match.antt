@@ -10,6 +10,7 @@ use Rattle.doc_model.specs.Answers.{Known}
 use Rattle.doc_model.specs.Document.{is_attribute, is_member}
 use Rattle.doc_model.specs.NodeTests.{meets}
 use Rattle.xpath_chains.specs.Mentions.{mentions}
+use Rattle.xpath_funcs.specs.Spaces.{words}
 use Rattle.xpath_syntax.specs.declared.expression.AxisName.{AxisName}
 use Rattle.xpath_syntax.specs.declared.expression.AxisName.TheVariants as name
 use Rattle.xpath_syntax.specs.declared.expression.Expr.{Expr}
@@ -25,8 +26,9 @@ use Rattle.xpath_meaning.specs.declared.context.Size.TheVariants as size
 use Rattle.xpath_meaning.specs.Conversions.{first_of}
 use Rattle.xpath_meaning.specs.Evaluation.{meant_step}
 use Rattle.xpath_meaning.specs.Meanings.{Meant, holds_at}
-use Rattle.xpath_meaning.specs.Outcome.{Outcome, ◌>>=◌, some_holds, kept_from}
+use Rattle.xpath_meaning.specs.Outcome.{Outcome, ◌>>=◌, some_holds, each_of, kept_from}
 use Rattle.xpath_meaning.specs.Reading.{Reading}
+use Rattle.xpath_meaning.specs.Steps.{joined}
 use Rattle.xpath_meaning.specs.Tests.{test_of}
 
 -- a step of a pattern: whether `//` stands before it, whether it is an attribute, its test, what its predicates mean, and whether one of them mentions last()
@@ -108,6 +110,10 @@ abbrev pub sources : Reading → Bool → ℕ → Outcome (List ℕ)
 sources R true n = R.axis axis.Ancestor test.Any n
 sources R false n = R.axis axis.Parent test.Any n
 
+-- whether the node is an element that one of the IDs names which stand in a string, split at whitespace; known once the root is shut
+abbrev pub is_found_by_ids : Reading → List ℕ → ℕ → Outcome Bool
+is_found_by_ids R ids n = R.whole >>= λ shut. each_of (λ id. R.by_id id) (words ids) >>= λ lists. Known (is_member n (joined lists))
+
 abbrev pub is_found_by_key : Reading → Option ℕ → List ℕ → ℕ → Outcome Bool
 is_found_by_key R None value n = Known false
 is_found_by_key R (Some key) value n = R.by_key key value >>= λ nodes. Known (is_member n nodes)
@@ -117,7 +123,7 @@ abbrev pub starts : Reading → PatternStart → ℕ → Outcome Bool
 starts R start.Relative n = Known true
 starts R start.Root n = Known (n == 0)
 starts R start.Deep n = Known true
-starts R (start.Id id) n = R.by_id id >>= λ nodes. Known (is_member n nodes)
+starts R (start.Id ids) n = is_found_by_ids R ids n
 starts R (start.Key name value) n = is_found_by_key R name.slot value n
 
 -- whether steps, the last one first, lead from the start of a pattern to node n
