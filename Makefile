@@ -7,6 +7,7 @@ PREFIX ?= /usr/local
 build:
 	cd crates/dtmx_pace && rt run -- builtin=out/built.txt < stdin
 	cd crates/word_cases && rt run
+	cd crates/value_costs && rt run -- clashes 12
 
 demo: build contrib
 	contrib/xml2pyx examples/two_items.xml | $(PACE) builtin=crates/dtmx_pace/out/demo.txt
@@ -22,6 +23,7 @@ bench: build contrib
 	bench/real.sh
 	bench/items.sh
 	bench/words.sh
+	bench/values.sh
 	bench/hostile.sh
 
 # The programs between XML and the lines need a C compiler and expat, and their tests python3.

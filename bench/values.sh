@@ -1,0 +1,33 @@
+#!/usr/bin/env bash
+# What calls over texts and results cost as their input doubles, in processor time of one run of `value_costs`: string
+# functions on texts that are made to be dear for them, sorted rows, events in order, and the bytes of elements whose
+# attributes clash. The status is 1 where one costs more than 2.2 times its half.
+PACE=crates/value_costs/out/value_costs
+. "$(dirname "$0")/common.sh"
+
+runs=1
+dear=0
+while read -r kind size; do
+  ends 0 "$pace" "$kind" "$size"
+  [ "$("$pace" "$kind" 0)" != "$("$pace" "$kind" "$size")" ] || [ "$kind" = contains ] || [ "$kind" = before ] || { echo "$0: $kind tells nothing" >&2; exit 1; }
+  half=$(cost "$pace" "$kind" "$size")
+  whole=$(cost "$pace" "$kind" $((2 * size)))
+  awk -v kind="$kind" -v size="$size" -v half="$half" -v whole="$whole" 'BEGIN {
+    printf "%s: %d ms for %d, %.2f times that for twice as many\n", kind, half / 1000, size, whole / half
+    exit whole > 2.2 * half
+  }' || dear=1
+done <<'KINDS'
+contains 20000000
+before 20000000
+after 20000000
+length 20000000
+normalize 5000000
+substring 10000000
+translate 4000000
+order 200000
+texts 1000000
+attributes 100000
+clashes 50000
+children 50000
+KINDS
+exit "$dear"
