@@ -17,14 +17,14 @@ use strip_rules::{StripRule, StripRules, StripView};
 // Texts of whitespace are stripped in all elements, or in all but those named `list`, or in all by a rule of
 // higher precedence than that for `list`, or in none.
 #[derive(Clone, Copy)]
-enum Stripped {
+pub enum Stripped {
     All,
     AllButLists,
     AllByPrecedence,
     None,
 }
 
-fn rules(alloc: Global, stripped: Stripped) -> Result<StripRules, AllocError>
+pub fn rules(alloc: Global, stripped: Stripped) -> Result<StripRules, AllocError>
     ensures { IfOk result (λ rules. all_spelled rules.rules ≡ true) }
 {
     let mut rules = List::new(alloc);

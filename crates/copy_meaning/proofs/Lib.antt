@@ -1,0 +1,5 @@
+pub mod Documents
+pub mod Families
+pub mod Subtrees
+pub mod Lasting
+mod Levels

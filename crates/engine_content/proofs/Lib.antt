@@ -1,0 +1,4 @@
+mod Rows
+mod Chains
+mod Reaching
+mod Pushing
