@@ -1,0 +1,10 @@
+pub mod Keeping
+pub mod Choosing
+pub mod Asking
+pub mod Grows
+pub mod Safely
+pub mod Told
+pub mod Safe
+pub mod Awaited
+pub mod Insertion
+pub mod Trials

@@ -1,0 +1,10 @@
+//! Laws of what a stylesheet means: functions without code whose contracts say what holds of the definitions.
+#![tactic(auto)]
+
+mod growth;
+mod rules;
+mod waiting;
+
+pub use growth::{choices_stay, executions_go_on, meanings_go_on};
+pub use rules::choices_stand_over_other_matching_rules;
+pub use waiting::meanings_wait_for_open_rows;

@@ -1,0 +1,9 @@
+pub mod Runs
+pub mod Events
+pub mod Places
+pub mod Questions
+pub mod Sorts
+pub mod Sizes
+pub mod Items
+pub mod Execution
+pub mod Meaning
