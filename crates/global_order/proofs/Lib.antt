@@ -1,0 +1,4 @@
+mod Shown
+mod Stretches
+mod Timed
+mod Uniqueness

@@ -1,0 +1,4 @@
+pub mod Needs
+pub mod Order
+pub mod Marks
+pub mod Times
