@@ -1,0 +1,4 @@
+pub mod Values
+pub mod Saying
+pub mod Loops
+pub mod Whole
