@@ -1,0 +1,4 @@
+mod Trees
+mod Loops
+mod Spacing
+mod Numbers
