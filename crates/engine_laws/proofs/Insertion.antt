@@ -63,7 +63,7 @@ module _ {A : Type 0} (cmp : A → A → Ordering) where
     by_false : (x y : A) → is_lt (cmp y x) ≡ false → NotBefore y x
     by_false x y e l = cc (e, ap is_lt l)
 
-    all_through : (x y : A) (ys : List A) → NotBefore y x → NoneBefore y ys → NoneBefore x ys
+    pub all_through : (x y : A) (ys : List A) → NotBefore y x → NoneBefore y ys → NoneBefore x ys
     all_through x y [] f a = tt
     all_through x y (z ∷ zs) f a = (through x y z f a.0, all_through x y zs f a.1)
 

@@ -8,3 +8,5 @@ pub mod Safe
 pub mod Awaited
 pub mod Insertion
 pub mod Trials
+pub mod KeyTotal
+pub mod Places
