@@ -31,10 +31,10 @@ make_source() {
     # So many elements, each with an attribute of one local name under each of so many prefixes.
     function one_local_name(elements, prefixes,  i, n) {
       print "(list"
-      for (i = 0; i < prefixes; i++) print "Axmlns:p" i " urn:" i
+      for (i = 100; i < 100 + prefixes; i++) print "Axmlns:p" i " urn:" i
       for (n = 0; n < elements; n++) {
         print "(e"
-        for (i = 0; i < prefixes; i++) print "Ap" i ":x v"
+        for (i = 100; i < 100 + prefixes; i++) print "Ap" i ":x v"
         print ")e"
       }
       print ")list"
