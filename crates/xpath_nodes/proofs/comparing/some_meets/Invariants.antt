@@ -1,0 +1,14 @@
+use Rattle.std.proofs.Common.{drop}
+use Rattle.doc_model.specs.View.{Moves}
+use Rattle.key_sources.specs.Going.{Lookups}
+use Rattle.key_sources.proofs.Loops.{Leaves}
+use Rattle.xpath_nodes.specs.Held.{AllJoined}
+use Rattle.xpath_nodes.specs.Pairs.{some_meets}
+use Rattle.xpath_nodes.proofs.comparing.some_meets.Given as goal
+
+abbrev pub invariant-loop-node : goal.invariant-loop-node
+invariant-loop-node g l = record {
+  moved : Moves (g.V.NodeView.sees l.fn.view) (g.V.NodeView.sees l.view);
+  joined : AllJoined (g.V.NodeView.sees l.view).steps l.nodes;
+  leaves : (lookups : Lookups) → Leaves lookups (g.V.NodeView.sees l.fn.view) (g.V.NodeView.sees l.view) (λ R. some_meets l.op R l.atoms (drop l.node-index l.nodes)) (λ R. some_meets l.op R l.atoms l.nodes);
+}

@@ -1,0 +1,5 @@
+pub mod Held
+pub mod Stopping
+pub mod Found
+pub mod Words
+pub mod Pairs
