@@ -24,7 +24,7 @@ length 20000000
 normalize 5000000
 substring 10000000
 translate 4000000
-order 200000
+order 50000
 texts 1000000
 attributes 100000
 clashes 50000
