@@ -1,7 +1,8 @@
 #!/usr/bin/env bash
 # What calls over texts and results cost as their input doubles, in processor time of one run of `value_costs`: string
 # functions on texts that are made to be dear for them, sorted rows, events in order, and the bytes of elements whose
-# attributes clash. The status is 1 where one costs more than 2.2 times its half.
+# attributes clash. The status is 1 where one costs more than 2.2 times its half, or, for sorted rows, 3.2 times: past the
+# caches each comparison waits for memory, though twice the rows take 2.1 times the instructions.
 PACE=crates/value_costs/out/value_costs
 . "$(dirname "$0")/common.sh"
 
@@ -10,7 +11,7 @@ least() { if [ -z "$1" ] || [ "$2" -lt "$1" ]; then echo "$2"; else echo "$1"; f
 
 runs=1
 dear=0
-while read -r kind size; do
+while read -r kind size most; do
   ends 0 "$pace" "$kind" "$size"
   [ "$("$pace" "$kind" 0)" != "$("$pace" "$kind" "$size")" ] || [ "$kind" = contains ] || [ "$kind" = before ] || { echo "$0: $kind tells nothing" >&2; exit 1; }
   # What passes the bound is timed up to three times, since other work on the machine may double the time of a run, and
@@ -19,24 +20,24 @@ while read -r kind size; do
   for round in 1 2 3; do
     half=$(least "$half" "$(cost "$pace" "$kind" "$size")")
     whole=$(least "$whole" "$(cost "$pace" "$kind" $((2 * size)))")
-    if awk -v half="$half" -v whole="$whole" 'BEGIN { exit whole > 2.2 * half }'; then passed=0 && break; fi
+    if awk -v half="$half" -v whole="$whole" -v most="$most" 'BEGIN { exit whole > most * half }'; then passed=0 && break; fi
   done
   [ "$passed" -eq 0 ] || dear=1
   awk -v kind="$kind" -v size="$size" -v half="$half" -v whole="$whole" 'BEGIN {
     printf "%s: %d ms for %d, %.2f times that for twice as many\n", kind, half / 1000, size, whole / half
   }'
 done <<'KINDS'
-contains 20000000
-before 20000000
-after 20000000
-length 20000000
-normalize 5000000
-substring 10000000
-translate 4000000
-order 25000
-texts 1000000
-attributes 100000
-clashes 50000
-children 50000
+contains 20000000 2.2
+before 20000000 2.2
+after 20000000 2.2
+length 20000000 2.2
+normalize 5000000 2.2
+substring 10000000 2.2
+translate 4000000 2.2
+order 100000 3.2
+texts 1000000 2.2
+attributes 100000 2.2
+clashes 50000 2.2
+children 50000 2.2
 KINDS
 exit "$dear"
