@@ -1,5 +1,6 @@
 -- Which rows are on an axis, and which stand between those that a walk comes to.
-use Rattle.std.proofs.Common.{◌≡◌, ℕ, zero, suc, ◌+◌, ◌-◌, ◌<◌, ◌≤◌, Bool, true, false, cond, not, ◌&&◌, ◌||◌, eqb, ltb, List, [], ◌∷◌, length, Option, Some, None, filter, drop, refl, ap, sym, ◌∙◌, arith, length-drop, get_or-drop, inl, inr, ◌⊎◌}
+use Rattle.std.proofs.Common.{◌≡◌, ℕ, zero, suc, ◌+◌, ◌-◌, ◌<◌, ◌≤◌, Bool, true, false, cond, not, ◌&&◌, ◌||◌, eqb, ltb, List, [], ◌∷◌, length}
+use Rattle.std.proofs.Common.{Option, Some, None, filter, drop, refl, ap, sym, ◌∙◌, arith, length-drop, get_or-drop, inl, inr, ◌⊎◌}
 use Rattle.std.proofs.lemmas.Bool.{cases_Bool, cases_lt, cases_eq, and_parts, and_from, and_left, and_right, or_from, or_left, lt-ltb, le-ltb, eq-eqb, ne_eqb, false≢true}
 use Rattle.doc_model.specs.declared.node_test.Test.{Test}
 use Rattle.doc_model.specs.declared.row.Axis.TheVariants as axis
@@ -63,10 +64,12 @@ first_is rules rows n k h =
       gap = λ i a b. filter_none_no (is_shown rules rows n) 0 (k - 0) i r.none a (omega arith);
     }
 
-pub first_none_is : (rules : List StripRule) (rows : List Row) (n : ℕ) → first_shown rules rows n ≡ None → (i : ℕ) → i < length rows → (is_visible rules rows i && is_child_of_some rows (Some n) i) ≡ false
+pub first_none_is : (rules : List StripRule) (rows : List Row) (n : ℕ) → first_shown rules rows n ≡ None → (i : ℕ) → i < length rows
+    → (is_visible rules rows i && is_child_of_some rows (Some n) i) ≡ false
 first_none_is rules rows n h i l = filter_none_no (is_shown rules rows n) 0 (length rows) i (first_none (filter (is_shown rules rows n) (numbers 0 (length rows))) h) (omega arith) (omega arith)
 
-pub next_is : (rules : List StripRule) (rows : List Row) (o : Option ℕ) (at k : ℕ) → at < length rows → sibling_parent rows at ≡ o → next_shown rules rows at ≡ Some k → IsNextFrom rules rows o (suc at) k
+pub next_is : (rules : List StripRule) (rows : List Row) (o : Option ℕ) (at k : ℕ) → at < length rows → sibling_parent rows at ≡ o → next_shown rules rows at ≡ Some k
+    → IsNextFrom rules rows o (suc at) k
 next_is rules rows None at k l e h = absurd (none_is k (sym (ap (next_shown_in rules rows at) e) ∙ h))
 next_is rules rows (Some p) at k l e h =
     let f : ℕ → Bool = is_shown rules rows p in
@@ -81,11 +84,13 @@ next_is rules rows (Some p) at k l e h =
       gap = λ i a b. filter_none_no f (suc at) (k - suc at) i r.none a (omega (arith, r.from));
     }
 
-pub next_none_is : (rules : List StripRule) (rows : List Row) (o : Option ℕ) (at : ℕ) → at < length rows → sibling_parent rows at ≡ o → next_shown rules rows at ≡ None → (i : ℕ) → at < i → i < length rows → (is_visible rules rows i && is_child_of_some rows o i) ≡ false
+pub next_none_is : (rules : List StripRule) (rows : List Row) (o : Option ℕ) (at : ℕ) → at < length rows → sibling_parent rows at ≡ o → next_shown rules rows at ≡ None → (i : ℕ)
+    → at < i → i < length rows → (is_visible rules rows i && is_child_of_some rows o i) ≡ false
 next_none_is rules rows None at l e h i a b = and_right (is_visible rules rows i) false refl
 next_none_is rules rows (Some p) at l e h i a b =
     let f : ℕ → Bool = is_shown rules rows p in
-    filter_none_no f (suc at) (length rows - suc at) i (first_none (filter f (numbers (suc at) (length rows - suc at))) (sym (ap first_of (after_of f at (length rows) l)) ∙ sym (ap (next_shown_in rules rows at) e) ∙ h)) a (omega arith)
+    filter_none_no f (suc at) (length rows - suc at) i
+    (first_none (filter f (numbers (suc at) (length rows - suc at))) (sym (ap first_of (after_of f at (length rows) l)) ∙ sym (ap (next_shown_in rules rows at) e) ∙ h)) a (omega arith)
 
 -- the last visible child of a row before a number
 pub record IsPrevTo (rules : List StripRule) (rows : List Row) (o : Option ℕ) (at k : ℕ) : Type 0 where
@@ -109,18 +114,22 @@ prev_is rules rows (Some p) at k e h =
       gap = λ i a b. filter_none_no f (suc k) ((0 + at) - suc k) i r.none a (omega arith);
     }
 
-pub prev_none_is : (rules : List StripRule) (rows : List Row) (o : Option ℕ) (at : ℕ) → sibling_parent rows at ≡ o → prev_shown rules rows at ≡ None → (i : ℕ) → i < at → (is_visible rules rows i && is_child_of_some rows o i) ≡ false
+pub prev_none_is : (rules : List StripRule) (rows : List Row) (o : Option ℕ) (at : ℕ) → sibling_parent rows at ≡ o → prev_shown rules rows at ≡ None → (i : ℕ) → i < at
+    → (is_visible rules rows i && is_child_of_some rows o i) ≡ false
 prev_none_is rules rows None at e h i a = and_right (is_visible rules rows i) false refl
 prev_none_is rules rows (Some p) at e h i a =
     filter_none_no (is_shown rules rows p) 0 at i (last_none (filter (is_shown rules rows p) (numbers 0 at)) (sym (ap (prev_shown_in rules rows at) e) ∙ h)) (omega arith) (omega arith)
 
-pub not_child : (rules : List StripRule) (rows : List Row) (n : ℕ) (x : Test) (k : ℕ) → (is_visible rules rows k && is_child_of_some rows (Some n) k) ≡ false → is_selected rules rows n axis.Child x k ≡ false
+pub not_child : (rules : List StripRule) (rows : List Row) (n : ℕ) (x : Test) (k : ℕ) → (is_visible rules rows k && is_child_of_some rows (Some n) k) ≡ false
+    → is_selected rules rows n axis.Child x k ≡ false
 not_child rules rows n x k h = lost (is_visible rules rows k) (meets Element x (row_at rows k)) (is_child rows n k) h
 
-pub not_after : (rules : List StripRule) (rows : List Row) (n : ℕ) (x : Test) (k : ℕ) → (is_visible rules rows k && is_child_of_some rows (sibling_parent rows n) k) ≡ false → is_selected rules rows n axis.FollowingSibling x k ≡ false
+pub not_after : (rules : List StripRule) (rows : List Row) (n : ℕ) (x : Test) (k : ℕ) → (is_visible rules rows k && is_child_of_some rows (sibling_parent rows n) k) ≡ false
+    → is_selected rules rows n axis.FollowingSibling x k ≡ false
 not_after rules rows n x k h = lost (is_visible rules rows k) (meets Element x (row_at rows k)) (ltb n k && is_sibling rows n k) (lost (is_visible rules rows k) (ltb n k) (is_sibling rows n k) h)
 
-pub not_before : (rules : List StripRule) (rows : List Row) (n : ℕ) (x : Test) (k : ℕ) → (is_visible rules rows k && is_child_of_some rows (sibling_parent rows n) k) ≡ false → is_selected rules rows n axis.PrecedingSibling x k ≡ false
+pub not_before : (rules : List StripRule) (rows : List Row) (n : ℕ) (x : Test) (k : ℕ) → (is_visible rules rows k && is_child_of_some rows (sibling_parent rows n) k) ≡ false
+    → is_selected rules rows n axis.PrecedingSibling x k ≡ false
 not_before rules rows n x k h = lost (is_visible rules rows k) (meets Element x (row_at rows k)) (ltb k n && is_sibling rows n k) (lost (is_visible rules rows k) (ltb k n) (is_sibling rows n k) h)
 
 pub after_low : (rows : List Row) (n k : ℕ) → k ≤ n → is_on axis.FollowingSibling rows n k ≡ false
@@ -219,7 +228,8 @@ below_through rows j at n h l a =
     (λ e. let b = below_parts rows j at e in below_from rows j n (omega (arith, up.0)) (nested rows j at n a b.1 up.0 up.1 l))
 
 -- the ancestors of a row below one that is it or an ancestor
-pub ancestors_from : (rows : List Row) (n at j : ℕ) (o : Option ℕ) → TreeHolds rows → IsRooted rows → n < length rows → at < length rows → IsUp rows n at → parent_of rows at ≡ o → j < at → is_below rows j n ≡ is_around rows o j
+pub ancestors_from : (rows : List Row) (n at j : ℕ) (o : Option ℕ) → TreeHolds rows → IsRooted rows → n < length rows → at < length rows → IsUp rows n at → parent_of rows at ≡ o
+    → j < at → is_below rows j n ≡ is_around rows o j
 ancestors_from rows n at j o t r l k u e a = elim u [
   | inl same ↦ sym (ap (is_below rows j) same) ∙ ancestors_by_parent rows t r at j o k e
   | inr b ↦ below_through rows j at n b l a ∙ ancestors_by_parent rows t r at j o k e

@@ -32,7 +32,8 @@ first_given rules rows n k h =
 pub first_all : (rules : List StripRule) (rows : List Row) (n : ℕ) → first_shown rules rows n ≡ None → given_to rules rows n None ≡ shown_of rules rows n
 first_all rules rows n h = sym (first_none (shown_of rules rows n) h)
 
-pub next_given : (rules : List StripRule) (rows : List Row) (n k j : ℕ) → StandsTo rules rows n (Some k) → next_shown rules rows k ≡ Some j → (given_to rules rows n (Some j) ≡ given_to rules rows n (Some k) ++ j ∷ []) × StandsTo rules rows n (Some j)
+pub next_given : (rules : List StripRule) (rows : List Row) (n k j : ℕ) → StandsTo rules rows n (Some k) → next_shown rules rows k ≡ Some j
+    → (given_to rules rows n (Some j) ≡ given_to rules rows n (Some k) ++ j ∷ []) × StandsTo rules rows n (Some j)
 next_given rules rows n k j s h =
     let f : ℕ → Bool = is_shown rules rows n in
     let r = next_is rules rows (Some n) k j s.0 (child_decider rows n k (and_parts _ _ s.1).1) h in
@@ -49,9 +50,11 @@ next_decides rules p n k b s h = ap (is_settled p) (sym (child_decider (rows_of 
 
 -- what a stream stands at, at a later step
 pub stands_later : {M : Type 0} (s t : Seen M) (n k : ℕ) (o : Option ℕ) → Moves s t → o ≡ Some k → StandsTo s.rules (rows_of s.steps) n o → StandsTo t.rules (rows_of t.steps) n (Some k)
-stands_later s t n k o m e h = subst (λ rules. StandsTo rules (rows_of t.steps) n (Some k)) (sym m.rules_stay) (stands_moves s.rules s.steps t.steps n (Some k) m.grows (subst (λ x. StandsTo s.rules (rows_of s.steps) n x) e h))
+stands_later s t n k o m e h =
+    subst (λ rules. StandsTo rules (rows_of t.steps) n (Some k)) (sym m.rules_stay) (stands_moves s.rules s.steps t.steps n (Some k) m.grows (subst (λ x. StandsTo s.rules (rows_of s.steps) n x) e h))
 
-pub stream_later : {M : Type 0} (s t : Seen M) (n : ℕ) (o : Option ℕ) → Moves s t → IsJoined s.steps n × StandsTo s.rules (rows_of s.steps) n o → IsJoined t.steps n × StandsTo t.rules (rows_of t.steps) n o
+pub stream_later : {M : Type 0} (s t : Seen M) (n : ℕ) (o : Option ℕ) → Moves s t → IsJoined s.steps n × StandsTo s.rules (rows_of s.steps) n o
+    → IsJoined t.steps n × StandsTo t.rules (rows_of t.steps) n o
 stream_later s t n o m h = (joined_grows s.steps t.steps n m.grows h.0, subst (λ rules. StandsTo rules (rows_of t.steps) n o) (sym m.rules_stay) (stands_moves s.rules s.steps t.steps n o m.grows h.1))
 
 -- at a step of a call, under the rules of its end

@@ -134,7 +134,8 @@ climb s t u n a x at id xs None f w l up m e =
     let up' = up_moves_on t.steps u.steps n at m.grows there w.joined up in
     down_skip s u n a x at 0 id xs v (omega arith) (λ j b c.
     none_selected u.rules (rows_of u.steps) n a x j
-    (f (rows_of u.steps) j (omega arith) ∙ ancestors_from (rows_of u.steps) n at j None (lawful_tree u.steps lawful) (lawful_rooted u.steps lawful) v.joined (joined_grows t.steps u.steps at m.grows there) up' e c))
+    (f (rows_of u.steps) j (omega arith)
+    ∙ ancestors_from (rows_of u.steps) n at j None (lawful_tree u.steps lawful) (lawful_rooted u.steps lawful) v.joined (joined_grows t.steps u.steps at m.grows there) up' e c))
 climb s t u n a x at id xs (Some k) f w l up m e =
     let v = down_moves s t u n a x at id xs w m in
     let lawful = m.seen.lawful.each in
@@ -150,7 +151,8 @@ climb s t u n a x at id xs (Some k) f w l up m e =
     )
 
 -- the ancestor was offered, and the next one is asked for
-pub climbed : {M : Type 0} (s t u v : Seen M) (n : ℕ) (a : Axis) (x : Test) (k : ℕ) (id id2 : Judged) (xs ys : List ℕ) (o : Option ℕ) → ((rows : List Row) (k : ℕ) → k < n → is_on a rows n k ≡ is_below rows k n)
+pub climbed : {M : Type 0} (s t u v : Seen M) (n : ℕ) (a : Axis) (x : Test) (k : ℕ) (id id2 : Judged) (xs ys : List ℕ) (o : Option ℕ)
+    → ((rows : List Row) (k : ℕ) → k < n → is_on a rows n k ≡ is_below rows k n)
     → Climbs s t n a x id xs (Some k) → k < n → Moves t u → IsMet u (meets (principal_of a) x) id2 → ys ≡ xs ++ only_if (meets (principal_of a) x (row_at (rows_of u.steps) k)) k
     → Moves u v → parent_of (rows_of v.steps) k ≡ o → Climbs s v n a x id2 ys o
 climbed s t u v n a x k id id2 xs ys o f w l m i e m2 h =
@@ -209,7 +211,8 @@ above_first p n o l j e = record {
   ancestors = λ i c. ancestors_by_parent (rows_of p) (lawful_tree p l.each) (lawful_rooted p l.each) n i o j e;
 }
 
-around_moves : (p q : List Step) (n k : ℕ) (up : Option ℕ) → Grows p q → IsJoined p n → k ≤ n → ((u : ℕ) → up ≡ Some u → u < k) → (j : ℕ) → j < k → is_around (rows_of q) up j ≡ is_around (rows_of p) up j
+around_moves : (p q : List Step) (n k : ℕ) (up : Option ℕ) → Grows p q → IsJoined p n → k ≤ n → ((u : ℕ) → up ≡ Some u → u < k) → (j : ℕ) → j < k
+    → is_around (rows_of q) up j ≡ is_around (rows_of p) up j
 around_moves p q n k None g l b h j c = refl
 around_moves p q n k (Some u) g l b h j c = ap (λ y. eqb u j || y) (below_moves_on p q j u g (omega (arith, l)) (let d = h u refl in omega (arith, l)))
 
@@ -277,7 +280,8 @@ parent_or_none rows n m e = elim (cases_Bool (is_attribute (row_at rows n).kind)
   | inr f ↦ inr (ap (λ b. cond b None (parent_of rows n)) f ∙ e)
 ]
 
-pub sibling_waits : {M : Type 0} (s t u : Seen M) (n : ℕ) (x : Test) (m at : ℕ) (id : Judged) (xs : List ℕ) (rules : List StripRule) (o : Option ℕ) → IsPast s t n axis.FollowingSibling x o at id xs → IsJoined s.steps n
+pub sibling_waits : {M : Type 0} (s t u : Seen M) (n : ℕ) (x : Test) (m at : ℕ) (id : Judged) (xs : List ℕ) (rules : List StripRule) (o : Option ℕ)
+    → IsPast s t n axis.FollowingSibling x o at id xs → IsJoined s.steps n
     → sibling_parent (rows_of s.steps) n ≡ o → (o ≡ None) ⊎ (o ≡ Some m)
     → AtStep t.steps u.steps (λ p. (next_shown rules (rows_of p) at ≡ None) × (is_settled p (sibling_parent (rows_of p) at) ≡ false))
     → AtStep s.steps u.steps (λ p. axis_of rules p n axis.FollowingSibling x ≡ Open m)
@@ -305,8 +309,10 @@ no_sibling_parent rows n e = elim (cases_Bool (is_attribute (row_at rows n).kind
   | inr f ↦ ap (λ b. cond b None (parent_of rows n)) f ∙ e
 ]
 
-pub parent_or_none_before : {M : Type 0} (s t : Seen M) (n m : ℕ) → Moves s t → IsJoined s.steps n → parent_of (rows_of t.steps) n ≡ Some m → (sibling_parent (rows_of s.steps) n ≡ None) ⊎ (sibling_parent (rows_of s.steps) n ≡ Some m)
+pub parent_or_none_before : {M : Type 0} (s t : Seen M) (n m : ℕ) → Moves s t → IsJoined s.steps n → parent_of (rows_of t.steps) n ≡ Some m
+    → (sibling_parent (rows_of s.steps) n ≡ None) ⊎ (sibling_parent (rows_of s.steps) n ≡ Some m)
 parent_or_none_before s t n m v j e = parent_or_none (rows_of s.steps) n m (sym (data_stay [] s.steps t.steps n v.grows v.seen.lawful j).parent ∙ e)
 
-pub out_of_memory : {M : Type 0} (s t : Seen M) (n : ℕ) (a : Axis) (x : Test) (result : Result (List ℕ) Ask) → IsErrAnd result (λ e. e ≡ Memory) → Answers stop_of (λ rules steps. axis_of rules steps n a x) s t result
+pub out_of_memory : {M : Type 0} (s t : Seen M) (n : ℕ) (a : Axis) (x : Test) (result : Result (List ℕ) Ask) → IsErrAnd result (λ e. e ≡ Memory)
+    → Answers stop_of (λ rules steps. axis_of rules steps n a x) s t result
 out_of_memory s t n a x result h = no_memory (λ rules steps. axis_of rules steps n a x) s t result h

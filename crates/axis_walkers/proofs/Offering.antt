@@ -1,5 +1,6 @@
 -- What is known of a type number, and what a row gives.
-use Rattle.std.proofs.Common.{◌≡◌, ℕ, ◌+◌, ◌-◌, ◌<◌, ◌≤◌, Bool, true, false, not, ◌&&◌, List, [], ◌∷◌, ◌++◌, length, Option, Some, None, Result, Ok, Err, filter, get_or, refl, ap, sym, ◌∙◌, arith, cond, inl, inr}
+use Rattle.std.proofs.Common.{◌≡◌, ℕ, ◌+◌, ◌-◌, ◌<◌, ◌≤◌, Bool, true, false, not, ◌&&◌, List, [], ◌∷◌, ◌++◌, length, Option, Some, None, Result, Ok}
+use Rattle.std.proofs.Common.{Err, filter, get_or, refl, ap, sym, ◌∙◌, arith, cond, inl, inr}
 use Rattle.std.proofs.lemmas.Bool.{and_left, and_right, cases_eq, eq-eqb, ne_eqb, false≢true}
 use Rattle.std.proofs.lemmas.List.{get_or_append_left}
 use Rattle.std.specs.Prelude.{bytes_eq, OnOk}
@@ -79,7 +80,8 @@ named_same uri local kind a b s =
     ∙ ap (λ x. (bytes_eq b.uri uri && has_part local x) && is_kind kind a.kind) s.local
     ∙ ap (λ x. (bytes_eq b.uri uri && has_part local b.local) && is_kind kind x) s.kind
 
-pub named_hit : {M : Type 0} (s : Seen M) (uri : List ℕ) (local : Option (List ℕ)) (kind : Kind) (met : Judged) (id k : ℕ) (passes : Bool) → IsSeen s → IsJoined s.steps k → IsMet s (named_row uri local kind) met
+pub named_hit : {M : Type 0} (s : Seen M) (uri : List ℕ) (local : Option (List ℕ)) (kind : Kind) (met : Judged) (id k : ℕ) (passes : Bool) → IsSeen s → IsJoined s.steps k
+    → IsMet s (named_row uri local kind) met
     → judged_at met id ≡ Some passes → id ≡ get_or s.types k 0 → named_row uri local kind (row_at (rows_of s.steps) k) ≡ passes
 named_hit s uri local kind met id k passes i j h e t = met_hit s (named_row uri local kind) met id k passes (named_same uri local kind) i j h e t
 
@@ -105,7 +107,8 @@ range_on f from k h =
     one : (f : ℕ → Bool) (k : ℕ) → filter f (k ∷ []) ≡ only_if (f k) k
     one f k = refl
 
-pub range_later : (rules : List StripRule) (p q : List Step) (t : Test) (from to : ℕ) → Grows p q → to ≤ length (rows_of p) → filter (is_plain rules (rows_of q) t) (numbers from (to - from)) ≡ filter (is_plain rules (rows_of p) t) (numbers from (to - from))
+pub range_later : (rules : List StripRule) (p q : List Step) (t : Test) (from to : ℕ) → Grows p q → to ≤ length (rows_of p)
+    → filter (is_plain rules (rows_of q) t) (numbers from (to - from)) ≡ filter (is_plain rules (rows_of p) t) (numbers from (to - from))
 range_later rules p q t from to g l = filter_same (is_plain rules (rows_of q) t) (is_plain rules (rows_of p) t) from (to - from) (λ k a b. plain_later rules p q t k g (omega arith))
 
 pub kind_same : (a b : Kind) → is_kind a b ≡ true → a ≡ b
@@ -122,7 +125,8 @@ and_true true = refl
 and_true false = refl
 
 -- the rows of a run at a later step
-pub range_moves : {M : Type 0} (s t : Seen M) (x : Test) (from to : ℕ) → Moves s t → to ≤ length (rows_of s.steps) → filter (is_plain t.rules (rows_of t.steps) x) (numbers from (to - from)) ≡ filter (is_plain s.rules (rows_of s.steps) x) (numbers from (to - from))
+pub range_moves : {M : Type 0} (s t : Seen M) (x : Test) (from to : ℕ) → Moves s t → to ≤ length (rows_of s.steps)
+    → filter (is_plain t.rules (rows_of t.steps) x) (numbers from (to - from)) ≡ filter (is_plain s.rules (rows_of s.steps) x) (numbers from (to - from))
 range_moves s t x from to m l = ap (λ rules. filter (is_plain rules (rows_of t.steps) x) (numbers from (to - from))) m.rules_stay ∙ range_later s.rules s.steps t.steps x from to m.grows l
 
 -- a row that was visible was offered

@@ -1,5 +1,6 @@
 -- How far a walk along an axis has come, upwards or downwards.
-use Rattle.std.proofs.Common.{◌≡◌, ℕ, suc, ◌+◌, ◌-◌, ◌<◌, ◌≤◌, Bool, true, false, cond, ◌&&◌, List, [], ◌∷◌, ◌++◌, length, Option, Some, None, filter, reverse, refl, ap, sym, ◌∙◌, arith, append-nil, append_assoc}
+use Rattle.std.proofs.Common.{◌≡◌, ℕ, suc, ◌+◌, ◌-◌, ◌<◌, ◌≤◌, Bool, true, false, cond, ◌&&◌, List, [], ◌∷◌, ◌++◌, length, Option, Some, None}
+use Rattle.std.proofs.Common.{filter, reverse, refl, ap, sym, ◌∙◌, arith, append-nil, append_assoc}
 use Rattle.std.proofs.lemmas.Bool.{lt-ltb, not-true}
 use Rattle.std.proofs.lemmas.List.{reverse-append}
 use Rattle.doc_model.specs.declared.node_test.Test.{Test}
@@ -107,7 +108,8 @@ up_skip s t n a x at to id xs w l h f = record {
 }
 
 -- whether a row that was there is selected
-selected_moves : {M : Type 0} (t u : Seen M) (n : ℕ) (a : Axis) (x : Test) (k : ℕ) → IsJoined t.steps n → IsJoined t.steps k → Moves t u → is_visible t.rules (rows_of t.steps) k ≡ true → is_on a (rows_of t.steps) n k ≡ true
+selected_moves : {M : Type 0} (t u : Seen M) (n : ℕ) (a : Axis) (x : Test) (k : ℕ) → IsJoined t.steps n → IsJoined t.steps k → Moves t u
+    → is_visible t.rules (rows_of t.steps) k ≡ true → is_on a (rows_of t.steps) n k ≡ true
     → is_selected u.rules (rows_of u.steps) n a x k ≡ meets (principal_of a) x (row_at (rows_of u.steps) k)
 selected_moves t u n a x k j l m v o =
     ap (λ rules. is_selected rules (rows_of u.steps) n a x k) m.rules_stay
@@ -172,7 +174,8 @@ settled_answer : (p : List Step) (o : Option ℕ) (xs : List ℕ) → is_settled
 settled_answer p None xs h = refl
 settled_answer p (Some m) xs h = ap (λ b. cond b (Open m) (Known xs)) (not-true (is_open p m) h)
 
-pub known_at : (rules : List StripRule) (p : List Step) (n : ℕ) (a : Axis) (x : Test) (xs : List ℕ) → IsJoined p n → is_settled p (need_of a (rows_of p) n) ≡ true → axis_rows rules (rows_of p) n a x ≡ xs → axis_of rules p n a x ≡ Known xs
+pub known_at : (rules : List StripRule) (p : List Step) (n : ℕ) (a : Axis) (x : Test) (xs : List ℕ) → IsJoined p n → is_settled p (need_of a (rows_of p) n) ≡ true
+    → axis_rows rules (rows_of p) n a x ≡ xs → axis_of rules p n a x ≡ Known xs
 known_at rules p n a x xs j s e =
     ap (λ b. cond b (once_shut p (need_of a (rows_of p) n) (axis_rows rules (rows_of p) n a x)) (Open n)) (lt-ltb n (length (rows_of p)) j)
     ∙ settled_answer p (need_of a (rows_of p) n) (axis_rows rules (rows_of p) n a x) s ∙ ap Known e
@@ -183,7 +186,8 @@ open_at rules p n m a x j e o =
     ∙ ap (λ y. once_shut p y (axis_rows rules (rows_of p) n a x)) e ∙ ap (λ b. cond b (Open m) (Known (axis_rows rules (rows_of p) n a x))) o
 
 -- the walk is over: no row at the number or past it is selected
-pub up_end : {M : Type 0} (s t : Seen M) (n : ℕ) (a : Axis) (x : Test) (at : ℕ) (id : Judged) (xs : List ℕ) → GoesUp s t n a x at id xs → is_reverse a ≡ false → is_settled t.steps (need_of a (rows_of t.steps) n) ≡ true
+pub up_end : {M : Type 0} (s t : Seen M) (n : ℕ) (a : Axis) (x : Test) (at : ℕ) (id : Judged) (xs : List ℕ) → GoesUp s t n a x at id xs → is_reverse a ≡ false
+    → is_settled t.steps (need_of a (rows_of t.steps) n) ≡ true
     → ((k : ℕ) → at ≤ k → k < length (rows_of t.steps) → is_selected t.rules (rows_of t.steps) n a x k ≡ false) → axis_of t.rules t.steps n a x ≡ Known xs
 up_end s t n a x at id xs w r h f =
     known_at t.rules t.steps n a x xs w.joined h
@@ -269,7 +273,8 @@ down_plain s t u n a x k id id2 xs ys w m p o i e = down_give s t u n a x k id i
     (ap (λ y. is_visible u.rules (rows_of u.steps) k && (meets y x (row_at (rows_of u.steps) k) && is_node (rows_of u.steps) k)) (sym p)
     ∙ ap (λ y. is_visible u.rules (rows_of u.steps) k && (meets (principal_of a) x (row_at (rows_of u.steps) k) && y)) (sym o)))
 
-pub down_end : {M : Type 0} (s t : Seen M) (n : ℕ) (a : Axis) (x : Test) (id : Judged) (xs : List ℕ) → GoesDown s t n a x 0 id xs → is_reverse a ≡ true → is_settled t.steps (need_of a (rows_of t.steps) n) ≡ true
+pub down_end : {M : Type 0} (s t : Seen M) (n : ℕ) (a : Axis) (x : Test) (id : Judged) (xs : List ℕ) → GoesDown s t n a x 0 id xs → is_reverse a ≡ true
+    → is_settled t.steps (need_of a (rows_of t.steps) n) ≡ true
     → ((k : ℕ) → suc n ≤ k → k < length (rows_of t.steps) → is_selected t.rules (rows_of t.steps) n a x k ≡ false) → axis_of t.rules t.steps n a x ≡ Known xs
 down_end s t n a x id xs w r h f =
     let g = is_selected t.rules (rows_of t.steps) n a x in

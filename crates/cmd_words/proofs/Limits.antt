@@ -1,5 +1,6 @@
 -- Words that are a plan give one within its limits.
-use Rattle.std.proofs.Common.{◌≡◌, ◌≤◌, ◌<◌, ◌+◌, ◌∙◌, ◌&&◌, ◌==◌, ℕ, suc, List, [], ◌∷◌, Bool, true, false, Option, Some, None, IfSome, is_some, All, nat_le, nat_lt, if◌then◌else◌, length, map, refl, ap, subst, sym, arith, rules, tests}
+use Rattle.std.proofs.Common.{◌≡◌, ◌≤◌, ◌<◌, ◌+◌, ◌∙◌, ◌&&◌, ◌==◌, ℕ, suc, List, [], ◌∷◌, Bool, true, false, Option, Some, None, IfSome, is_some}
+use Rattle.std.proofs.Common.{All, nat_le, nat_lt, if◌then◌else◌, length, map, refl, ap, subst, sym, arith, rules, tests}
 use Rattle.std.specs.List.{list_all, filter_map, cons_option, range_with_len}
 use Rattle.std.specs.Option.{option_and_then, option_map}
 use Rattle.std.proofs.lemmas.Bool.Decides.{nat_tests}
@@ -97,7 +98,8 @@ within_limits (Some list) words are =
       few_pairs = omega arith;
       some_turn = omega (arith, length-slice_split is_comma list);
       few_turns = omega arith;
-      each_turn = subst (λ readers. All (IsItem readers) (items_of (length words) list)) (sym count) (All-filter_map (item_of (length words)) (IsItem (length words)) (item_item (length words)) (pieces_of list));
+      each_turn = subst (λ readers. All (IsItem readers) (items_of (length words) list)) (sym count)
+          (All-filter_map (item_of (length words)) (IsItem (length words)) (item_item (length words)) (pieces_of list));
     }
 
 -- the plan that is made of parts is that of the words which they are

@@ -51,7 +51,8 @@ step_other row attributes more (suc k) a b c l = elim (cases_lt k (length attrib
 given_other : (s : Document) (p : List Step) → LawfulFrom s p → (k : ℕ) → k < length (rows_given p) → is_root (row_at (rows_given p) k).kind ≡ false
 given_other s [] l k h = absurd (omega arith)
 given_other s (Node row attributes ∷ p) l k h =
-    step_other row attributes (rows_given p) k (standing_other row.kind l.1.kind) (λ j m. ap is_root (attribute_depths row.depth attributes j l.1.carried m).0) (given_other (after s (Node row attributes)) p l.2) h
+    step_other row attributes (rows_given p) k (standing_other row.kind l.1.kind) (λ j m. ap is_root (attribute_depths row.depth attributes j l.1.carried m).0)
+    (given_other (after s (Node row attributes)) p l.2) h
 given_other s (Shut ∷ p) l k h = given_other (after s Shut) p l.2 k h
 given_other s (End v ∷ p) l k h = given_other (after s (End v)) p l.2 k h
 

@@ -107,7 +107,8 @@ module _ (rows : List Row) (doc : IsDocument rows) where
       ]
 
   -- behind the attributes of a row its first child stands
-  pub child_first : (m j : ℕ) → m < length rows → is_parent (row_at rows m).kind ≡ true → m < j → j < extent_of rows m → ((i : ℕ) → m < i → i < j → is_attribute (row_at rows i).kind ≡ true) → is_attribute (row_at rows j).kind ≡ false → is_child rows m j ≡ true
+  pub child_first : (m j : ℕ) → m < length rows → is_parent (row_at rows m).kind ≡ true → m < j → j < extent_of rows m
+      → ((i : ℕ) → m < i → i < j → is_attribute (row_at rows i).kind ≡ true) → is_attribute (row_at rows j).kind ≡ false → is_child rows m j ≡ true
   child_first m j lm par a b before plain =
       let lj : j < length rows = omega (arith, b, extent_le rows m lm) in
       found (parent_of rows j) refl lj

@@ -22,7 +22,8 @@ use Rattle.copy_meaning.proofs.Subtrees.{copy_passes}
 
 -- the copy of a row as one pass
 pub copy_is_pass : (rules : List StripRule) (p : List Step) (n : ℕ) → IsLawful p → IsJoined p n
-    → copy_in rules (rows_of p) n ≡ beginning (row_at (rows_of p) n) ++ pass rules (rows_of p) (depth_at (rows_of p) n) (suc n) (extent_of (rows_of p) n - suc n) (depth_at (rows_of p) n) ++ ending (row_at (rows_of p) n)
+    → copy_in rules (rows_of p) n ≡ beginning (row_at (rows_of p) n)
+    ++ pass rules (rows_of p) (depth_at (rows_of p) n) (suc n) (extent_of (rows_of p) n - suc n) (depth_at (rows_of p) n) ++ ending (row_at (rows_of p) n)
 unfolding copy_in
 copy_is_pass rules p n l j = copy_passes rules (rows_of p) (lawful_document p l) (length (rows_of p)) n j (omega arith)
 

@@ -1,5 +1,6 @@
 -- One pass through the rows of a subtree gives the copy of its row.
-use Rattle.std.proofs.Common.{◌≡◌, ℕ, zero, suc, ◌+◌, ◌-◌, ◌<◌, ◌≤◌, Bool, true, false, cond, not, ◌&&◌, List, [], ◌∷◌, ◌++◌, length, map, drop, filter, flat_map, refl, ap, sym, ◌∙◌, arith, append_assoc, append-nil, length-drop, get_or-drop, inl, inr, ◌⊎◌}
+use Rattle.std.proofs.Common.{◌≡◌, ℕ, zero, suc, ◌+◌, ◌-◌, ◌<◌, ◌≤◌, Bool, true, false, cond, not, ◌&&◌, List, [], ◌∷◌, ◌++◌, length, map, drop}
+use Rattle.std.proofs.Common.{filter, flat_map, refl, ap, sym, ◌∙◌, arith, append_assoc, append-nil, length-drop, get_or-drop, inl, inr, ◌⊎◌}
 use Rattle.std.proofs.lemmas.Bool.{cases_Bool, cases_lt, and_parts, and_right, false≢true}
 use Rattle.std.proofs.lemmas.List.{replicate-append-replicate}
 use Rattle.doc_model.specs.declared.row.Kind.{Kind}
@@ -26,7 +27,8 @@ use Rattle.copy_meaning.proofs.Families.{extent_stops, parent_depth, child_paren
 
 -- Numbers that pass a test between two places alone.
 
-filter_window : (f : ℕ → Bool) (from to count : ℕ) → from ≤ to → to ≤ count → ((k : ℕ) → k < from → f k ≡ false) → ((k : ℕ) → to ≤ k → k < count → f k ≡ false) → filter f (numbers 0 count) ≡ filter f (numbers from (to - from))
+filter_window : (f : ℕ → Bool) (from to count : ℕ) → from ≤ to → to ≤ count → ((k : ℕ) → k < from → f k ≡ false) → ((k : ℕ) → to ≤ k → k < count → f k ≡ false)
+    → filter f (numbers 0 count) ≡ filter f (numbers from (to - from))
 filter_window f from to count l m before past =
     let e : count ≡ from + ((to - from) + (count - to)) = omega arith in
     let z : 0 + from ≡ from = omega arith in
@@ -221,12 +223,14 @@ module _ (rules : List StripRule) (rows : List Row) (doc : IsDocument rows) wher
 
   -- a pass through the rows of a subtree gives its copy, behind the ends of what it is not in
   abbrev PassesSubtrees : ℕ → Type 0
-  PassesSubtrees levels = (m w c d base : ℕ) → m < length rows → is_attribute (row_at rows m).kind ≡ false → 0 < m → length rows ≤ m + levels → extent_of rows m ≡ suc m + w → base < depth_at rows m → (0 < c → extent_of rows m < length rows)
+  PassesSubtrees levels = (m w c d base : ℕ) → m < length rows → is_attribute (row_at rows m).kind ≡ false → 0 < m → length rows ≤ m + levels → extent_of rows m ≡ suc m + w
+      → base < depth_at rows m → (0 < c → extent_of rows m < length rows)
       → pass rules rows base m (suc (w + c)) d ≡ ends (suc d - depth_at rows m) ++ (shown_copy levels m ++ pass rules rows base (extent_of rows m) c (depth_at rows m - 1))
 
   -- from one child on
   module _ (levels : ℕ) (sub : PassesSubtrees levels) (m base : ℕ) (lm : m < length rows) (low : base ≤ depth_at rows m) (enough : length rows ≤ m + suc levels) where
-    no_child : (j s c : ℕ) → s ≡ 0 → pass rules rows base j (s + c) (depth_at rows m) ≡ flat_map (copy_within rules rows levels) (filter (is_shown rules rows m) (numbers j s)) ++ pass rules rows base (j + s) c (depth_at rows m)
+    no_child : (j s c : ℕ) → s ≡ 0
+        → pass rules rows base j (s + c) (depth_at rows m) ≡ flat_map (copy_within rules rows levels) (filter (is_shown rules rows m) (numbers j s)) ++ pass rules rows base (j + s) c (depth_at rows m)
     no_child j s c e =
         let f : s + c ≡ c = omega arith in
         let g : j ≡ j + s = omega arith in
@@ -236,19 +240,23 @@ module _ (rules : List StripRule) (rows : List Row) (doc : IsDocument rows) wher
 
     -- the copies of the first child and of those behind it
     first_apart : (j w s : ℕ) → is_child rows m j ≡ true → j < length rows → extent_of rows j ≡ suc j + w
-        → flat_map (copy_within rules rows levels) (filter (is_shown rules rows m) (numbers j (suc (w + s)))) ≡ shown_copy levels j ++ flat_map (copy_within rules rows levels) (filter (is_shown rules rows m) (numbers (extent_of rows j) s))
+        → flat_map (copy_within rules rows levels) (filter (is_shown rules rows m) (numbers j (suc (w + s))))
+        ≡ shown_copy levels j ++ flat_map (copy_within rules rows levels) (filter (is_shown rules rows m) (numbers (extent_of rows j) s))
     first_apart j w s h lj e =
         let f : ℕ → Bool = is_shown rules rows m in
         let copies : List ℕ → List ResultEvent = flat_map (copy_within rules rows levels) in
         let rest : filter (is_shown rules rows m) (numbers (suc j) (w + s)) ≡ filter (is_shown rules rows m) (numbers (extent_of rows j) s) =
         filter-split (is_shown rules rows m) (suc j) w s
-        ∙ ap (λ xs. xs ++ filter (is_shown rules rows m) (numbers (suc j + w) s)) (filter_nothing (is_shown rules rows m) (suc j) w (λ k l u. and_right (is_visible rules rows k) (is_child rows m k) (child_alone rows doc m j k lj h (omega arith) (omega (arith, e, u)))))
+        ∙ ap (λ xs. xs ++ filter (is_shown rules rows m) (numbers (suc j + w) s))
+        (filter_nothing (is_shown rules rows m) (suc j) w (λ k l u. and_right (is_visible rules rows k) (is_child rows m k) (child_alone rows doc m j k lj h (omega arith) (omega (arith, e, u)))))
         ∙ ap (λ n. filter (is_shown rules rows m) (numbers n s)) (sym e) in
         ap (λ xs. flat_map (copy_within rules rows levels) (cond (is_visible rules rows j && is_child rows m j) (j ∷ xs) xs)) rest
-        ∙ ap (λ b. flat_map (copy_within rules rows levels) (cond (is_visible rules rows j && b) (j ∷ filter (is_shown rules rows m) (numbers (extent_of rows j) s)) (filter (is_shown rules rows m) (numbers (extent_of rows j) s)))) h
+        ∙ ap (λ b. flat_map (copy_within rules rows levels)
+        (cond (is_visible rules rows j && b) (j ∷ filter (is_shown rules rows m) (numbers (extent_of rows j) s)) (filter (is_shown rules rows m) (numbers (extent_of rows j) s)))) h
         ∙ seen (is_visible rules rows j) j (filter (is_shown rules rows m) (numbers (extent_of rows j) s))
       where
-        seen : (b : Bool) (j : ℕ) (ks : List ℕ) → flat_map (copy_within rules rows levels) (cond (b && true) (j ∷ ks) ks) ≡ cond b (copy_within rules rows levels j) [] ++ flat_map (copy_within rules rows levels) ks
+        seen : (b : Bool) (j : ℕ) (ks : List ℕ)
+            → flat_map (copy_within rules rows levels) (cond (b && true) (j ∷ ks) ks) ≡ cond b (copy_within rules rows levels j) [] ++ flat_map (copy_within rules rows levels) ks
         seen true j ks = refl
         seen false j ks = refl
 
@@ -269,8 +277,10 @@ module _ (rules : List StripRule) (rows : List Row) (doc : IsDocument rows) wher
           let ey : extent_of rows j ≡ suc j + (extent_of rows j - suc j) = omega arith in
           let es : s ≡ suc ((extent_of rows j - suc j) + (extent_of rows m - extent_of rows j)) = omega (arith, e, ends_in) in
           let ec : s + c ≡ suc ((extent_of rows j - suc j) + ((extent_of rows m - extent_of rows j) + c)) = omega (arith, es) in
-          let one = sub j (extent_of rows j - suc j) ((extent_of rows m - extent_of rows j) + c) (depth_at rows m) base lj (child_plain rows doc m j h) (omega (arith, up.0)) (omega (arith, up.0, enough)) ey (omega (arith, up.1, low)) (λ p. further p (past) ends_in le) in
-          let more = children_from most (extent_of rows j) (extent_of rows m - extent_of rows j) c (omega (arith, es, l)) (omega (arith, ends_in)) (elim (cases_lt (extent_of rows j) (extent_of rows m)) [
+          let one = sub j (extent_of rows j - suc j) ((extent_of rows m - extent_of rows j) + c) (depth_at rows m) base lj (child_plain rows doc m j h) (omega (arith, up.0))
+          (omega (arith, up.0, enough)) ey (omega (arith, up.1, low)) (λ p. further p (past) ends_in le) in
+          let more = children_from most (extent_of rows j) (extent_of rows m - extent_of rows j) c (omega (arith, es, l)) (omega (arith, ends_in))
+          (elim (cases_lt (extent_of rows j) (extent_of rows m)) [
             | inl lt ↦ inr (omega arith, child_next rows doc m j lm lj h lt)
             | inr ge ↦ inl (omega arith)
           ]) past in
@@ -282,13 +292,18 @@ module _ (rules : List StripRule) (rows : List Row) (doc : IsDocument rows) wher
           ∙ ap (λ n. ends n ++ (shown_copy levels j ++ pass rules rows base (extent_of rows j) ((extent_of rows m - extent_of rows j) + c) (depth_at rows j - 1))) flat
           ∙ ap (λ n. shown_copy levels j ++ pass rules rows base (extent_of rows j) ((extent_of rows m - extent_of rows j) + c) n) level
           ∙ ap (λ xs. shown_copy levels j ++ xs) more
-          ∙ sym (append_assoc (shown_copy levels j) (flat_map (copy_within rules rows levels) (filter (is_shown rules rows m) (numbers (extent_of rows j) (extent_of rows m - extent_of rows j)))) (pass rules rows base (extent_of rows j + (extent_of rows m - extent_of rows j)) c (depth_at rows m)))
-          ∙ ap (λ xs. xs ++ pass rules rows base (extent_of rows j + (extent_of rows m - extent_of rows j)) c (depth_at rows m)) (sym (first_apart j (extent_of rows j - suc j) (extent_of rows m - extent_of rows j) h lj ey))
-          ∙ ap (λ n. flat_map (copy_within rules rows levels) (filter (is_shown rules rows m) (numbers j (suc ((extent_of rows j - suc j) + (extent_of rows m - extent_of rows j))))) ++ pass rules rows base n c (depth_at rows m)) end
+          ∙ sym (append_assoc (shown_copy levels j)
+          (flat_map (copy_within rules rows levels) (filter (is_shown rules rows m) (numbers (extent_of rows j) (extent_of rows m - extent_of rows j))))
+          (pass rules rows base (extent_of rows j + (extent_of rows m - extent_of rows j)) c (depth_at rows m)))
+          ∙ ap (λ xs. xs ++ pass rules rows base (extent_of rows j + (extent_of rows m - extent_of rows j)) c (depth_at rows m))
+          (sym (first_apart j (extent_of rows j - suc j) (extent_of rows m - extent_of rows j) h lj ey))
+          ∙ ap (λ n. flat_map (copy_within rules rows levels)
+          (filter (is_shown rules rows m) (numbers j (suc ((extent_of rows j - suc j) + (extent_of rows m - extent_of rows j))))) ++ pass rules rows base n c (depth_at rows m)) end
           ∙ ap (λ n. flat_map (copy_within rules rows levels) (filter (is_shown rules rows m) (numbers j n)) ++ pass rules rows base (j + s) c (depth_at rows m)) (sym es)
     ]
       where
-        further : 0 < (extent_of rows m - extent_of rows j) + c → (0 < c → extent_of rows m < length rows) → extent_of rows j ≤ extent_of rows m → extent_of rows m ≤ length rows → extent_of rows j < length rows
+        further : 0 < (extent_of rows m - extent_of rows j) + c → (0 < c → extent_of rows m < length rows) → extent_of rows j ≤ extent_of rows m → extent_of rows m ≤ length rows
+            → extent_of rows j < length rows
         further p past a b = elim (cases_lt (extent_of rows j) (extent_of rows m)) [
           | inl lt ↦ omega arith
           | inr ge ↦ let q = past (omega arith) in omega arith
@@ -296,7 +311,8 @@ module _ (rules : List StripRule) (rows : List Row) (doc : IsDocument rows) wher
 
     -- all that is in a row: its attributes, and the copies of its visible children
     inner : (w c : ℕ) → is_parent (row_at rows m).kind ≡ true → extent_of rows m ≡ suc m + w → (0 < c → extent_of rows m < length rows)
-        → pass rules rows base (suc m) (w + c) (depth_at rows m) ≡ (attributes_of rows m ++ flat_map (copy_within rules rows levels) (shown_of rules rows m)) ++ pass rules rows base (extent_of rows m) c (depth_at rows m)
+        → pass rules rows base (suc m) (w + c) (depth_at rows m)
+        ≡ (attributes_of rows m ++ flat_map (copy_within rules rows levels) (shown_of rules rows m)) ++ pass rules rows base (extent_of rows m) c (depth_at rows m)
     inner w c par e past =
         let plain = parent_plain (row_at rows m).kind par in
         let a : ℕ = attr_count_of rows m in
@@ -306,12 +322,17 @@ module _ (rules : List StripRule) (rows : List Row) (doc : IsDocument rows) wher
         let ec : w + c ≡ attr_count_of rows m + ((w - attr_count_of rows m) + c) = omega (arith, within, e) in
         let ej : (suc m + attr_count_of rows m) + (w - attr_count_of rows m) ≡ extent_of rows m = omega (arith, within, e) in
         let ew : extent_of rows m - (suc m + attr_count_of rows m) ≡ w - attr_count_of rows m = omega (arith, within, e) in
-        let is : (k : ℕ) → suc m ≤ k → k < suc m + attr_count_of rows m → is_attribute_of rows m k ≡ true = λ (k : ℕ) (l : suc m ≤ k) (u : k < suc m + attr_count_of rows m). attribute_at m k lm (omega (arith, u, within, le)) (omega arith) (omega arith) in
+        let is : (k : ℕ) → suc m ≤ k → k < suc m + attr_count_of rows m → is_attribute_of rows m k ≡ true =
+        λ (k : ℕ) (l : suc m ≤ k) (u : k < suc m + attr_count_of rows m). attribute_at m k lm (omega (arith, u, within, le)) (omega arith) (omega arith) in
         let attrs = pass_attributes rules rows base (suc m) (attr_count_of rows m) ((w - attr_count_of rows m) + c) (depth_at rows m)
         (λ k l u. attribute_part m k (is k l u)) (λ k l u. attribute_depth m k (omega (arith, u, within, le)) (is k l u)) in
         let kids = children_from (w - attr_count_of rows m) (suc m + attr_count_of rows m) (w - attr_count_of rows m) c (omega arith) ej (elim (cases_lt 0 (w - attr_count_of rows m)) [
           | inr none ↦ inl (omega arith)
-          | inl some ↦ inr (some, child_first rows doc m (suc m + attr_count_of rows m) lm par (omega arith) (omega (arith, some, e)) (λ i l u. attribute_part m i (is i (omega arith) u)) (behind plain (omega (arith, some, e, le))))
+          | inl some ↦ inr (
+            some,
+            child_first rows doc m (suc m + attr_count_of rows m) lm par (omega arith) (omega (arith, some, e))
+                (λ i l u. attribute_part m i (is i (omega arith) u)) (behind plain (omega (arith, some, e, le))),
+          )
         ]) past in
         let shown : shown_of rules rows m ≡ filter (is_shown rules rows m) (numbers (suc m + attr_count_of rows m) (w - attr_count_of rows m)) =
         filter_window (is_shown rules rows m) (suc m + attr_count_of rows m) (extent_of rows m) (length rows) within le
@@ -321,9 +342,14 @@ module _ (rules : List StripRule) (rows : List Row) (doc : IsDocument rows) wher
         ap (λ n. pass rules rows base (suc m) n (depth_at rows m)) ec
         ∙ attrs
         ∙ ap (λ xs. map (attribute_event rows) (numbers (suc m) (attr_count_of rows m)) ++ xs) kids
-        ∙ ap (λ n. map (attribute_event rows) (numbers (suc m) (attr_count_of rows m)) ++ (flat_map (copy_within rules rows levels) (filter (is_shown rules rows m) (numbers (suc m + attr_count_of rows m) (w - attr_count_of rows m))) ++ pass rules rows base n c (depth_at rows m))) ej
-        ∙ sym (append_assoc (map (attribute_event rows) (numbers (suc m) (attr_count_of rows m))) (flat_map (copy_within rules rows levels) (filter (is_shown rules rows m) (numbers (suc m + attr_count_of rows m) (w - attr_count_of rows m)))) (pass rules rows base (extent_of rows m) c (depth_at rows m)))
-        ∙ ap (λ xs. (xs ++ flat_map (copy_within rules rows levels) (filter (is_shown rules rows m) (numbers (suc m + attr_count_of rows m) (w - attr_count_of rows m)))) ++ pass rules rows base (extent_of rows m) c (depth_at rows m)) (sym (attributes_run m lm plain))
+        ∙ ap (λ n. map (attribute_event rows) (numbers (suc m) (attr_count_of rows m))
+        ++ (flat_map (copy_within rules rows levels) (filter (is_shown rules rows m) (numbers (suc m + attr_count_of rows m) (w - attr_count_of rows m)))
+        ++ pass rules rows base n c (depth_at rows m))) ej
+        ∙ sym (append_assoc (map (attribute_event rows) (numbers (suc m) (attr_count_of rows m)))
+        (flat_map (copy_within rules rows levels) (filter (is_shown rules rows m) (numbers (suc m + attr_count_of rows m) (w - attr_count_of rows m))))
+        (pass rules rows base (extent_of rows m) c (depth_at rows m)))
+        ∙ ap (λ xs. (xs ++ flat_map (copy_within rules rows levels) (filter (is_shown rules rows m) (numbers (suc m + attr_count_of rows m) (w - attr_count_of rows m))))
+        ++ pass rules rows base (extent_of rows m) c (depth_at rows m)) (sym (attributes_run m lm plain))
         ∙ ap (λ ks. (attributes_of rows m ++ flat_map (copy_within rules rows levels) ks) ++ pass rules rows base (extent_of rows m) c (depth_at rows m)) (sym shown)
       where
         behind : is_attribute (row_at rows m).kind ≡ false → suc m + attr_count_of rows m < length rows → is_attribute (row_at rows (suc m + attr_count_of rows m)).kind ≡ false
@@ -355,7 +381,9 @@ module _ (rules : List StripRule) (rows : List Row) (doc : IsDocument rows) wher
         let z : w ≡ 0 = omega (arith, e, doc.tree.leaves m lm leaf) in
         let zc : w + c ≡ c = omega (arith, z) in
         let behind : depth_behind (row_at rows m) ≡ depth_at rows m - 1 = ap (λ b. cond b (depth_at rows m) (depth_at rows m - 1)) leaf in
-        let made : beginning_shown rules rows m ≡ shown_copy (suc levels) m = ap (λ xs. cond (is_visible rules rows m) xs []) (sym (leaf_made (row_at rows m).kind (row_at rows m) (attributes_of rows m) (flat_map (copy_within rules rows levels) (shown_of rules rows m)) leaf)) in
+        let made : beginning_shown rules rows m ≡ shown_copy (suc levels) m =
+        ap (λ xs. cond (is_visible rules rows m) xs [])
+        (sym (leaf_made (row_at rows m).kind (row_at rows m) (attributes_of rows m) (flat_map (copy_within rules rows levels) (shown_of rules rows m)) leaf)) in
         ap (λ n. (ends (suc d - depth_at rows m) ++ beginning_shown rules rows m) ++ pass rules rows base (suc m) n (depth_behind (row_at rows m))) zc
         ∙ ap (λ n. (ends (suc d - depth_at rows m) ++ beginning_shown rules rows m) ++ pass rules rows base (suc m) c n) behind
         ∙ ap (λ n. (ends (suc d - depth_at rows m) ++ beginning_shown rules rows m) ++ pass rules rows base n c (depth_at rows m - 1)) (sym (doc.tree.leaves m lm leaf))
@@ -365,13 +393,15 @@ module _ (rules : List StripRule) (rows : List Row) (doc : IsDocument rows) wher
         let is = element_kind (row_at rows m).kind par (doc.others m some lm) in
         let seen = other_visible rules rows m (parent_other (row_at rows m).kind par) in
         let name : ResultEvent = event.Start (result_name (row_at rows m)) in
-        let begins : beginning_shown rules rows m ≡ event.Start (result_name (row_at rows m)) ∷ [] = ap (λ b. cond b (beginning (row_at rows m)) []) seen ∙ ap (λ k. beginning_as k (row_at rows m)) is in
+        let begins : beginning_shown rules rows m ≡ event.Start (result_name (row_at rows m)) ∷ [] =
+        ap (λ b. cond b (beginning (row_at rows m)) []) seen ∙ ap (λ k. beginning_as k (row_at rows m)) is in
         let behind : depth_behind (row_at rows m) ≡ depth_at rows m = ap (λ b. cond b (depth_at rows m) (depth_at rows m - 1)) par in
         let within : List ResultEvent = attributes_of rows m ++ flat_map (copy_within rules rows levels) (shown_of rules rows m) in
         let rest : List ResultEvent = pass rules rows base (extent_of rows m) c (depth_at rows m - 1) in
         let body = inner levels (passes_subtrees levels) m base lm (omega (arith, low)) (omega (arith, enough)) w c par e past in
         let one : depth_at rows m - (depth_at rows m - 1) ≡ 1 = omega (arith, low) in
-        let closed = pass_closes rules rows base (extent_of rows m) c (depth_at rows m) (depth_at rows m - 1) (omega (arith, low)) (omega arith) (λ p. let q = flat (past p) in omega (arith, q, low)) in
+        let closed = pass_closes rules rows base (extent_of rows m) c (depth_at rows m) (depth_at rows m - 1) (omega (arith, low)) (omega arith)
+        (λ p. let q = flat (past p) in omega (arith, q, low)) in
         let copied : shown_copy (suc levels) m ≡ event.Start (result_name (row_at rows m)) ∷ (within ++ event.End ∷ []) =
         ap (λ b. cond b (copy_within rules rows (suc levels) m) []) seen
         ∙ ap (λ k. made_of k (row_at rows m) (attributes_of rows m) (flat_map (copy_within rules rows levels) (shown_of rules rows m))) is in

@@ -1,5 +1,6 @@
 -- The pairs of a plan and their outcomes, one after the other.
-use Rattle.std.proofs.Common.{◌≡◌, ℕ, ◌+◌, ◌<◌, List, [], ◌∷◌, ◌++◌, length, drop, get_or, min, refl, ap, sym, ◌∙◌, arith, append-nil, append_assoc, length-drop, drop-cons, suc, add-one, Option, Some, None, inl, inr, ◌⊎◌}
+use Rattle.std.proofs.Common.{◌≡◌, ℕ, ◌+◌, ◌<◌, List, [], ◌∷◌, ◌++◌, length, drop, get_or, min, refl, ap, sym, ◌∙◌, arith, append-nil, append_assoc}
+use Rattle.std.proofs.Common.{length-drop, drop-cons, suc, add-one, Option, Some, None, inl, inr, ◌⊎◌}
 use Rattle.std.specs.Prelude.{Result, Ok, Err}
 use Rattle.edge.specs.Causes.{Rose, HasCause}
 use Rattle.edge.specs.Outside.{Grows, WritesAll}

@@ -201,7 +201,8 @@ same_count rows h =
 
 -- as many bytes
 pub same_bytes : (rows : List Row) → HaveNoRoot rows
-    → name_bytes (names_from [] rows) + prefix_bytes (prefixes_from [] rows) ≡ sum (map (λ (row : Row). length row.uri + length row.local) (types rows)) + sum (map (λ (prefix : List ℕ). length prefix) (prefixes rows))
+    → name_bytes (names_from [] rows) + prefix_bytes (prefixes_from [] rows)
+    ≡ sum (map (λ (row : Row). length row.uri + length row.local) (types rows)) + sum (map (λ (prefix : List ℕ). length prefix) (prefixes rows))
 same_bytes rows h =
     let size : Name → ℕ = λ name. length name.uri + length name.local in
     let long : List ℕ → ℕ = λ prefix. length prefix in

@@ -47,7 +47,8 @@ other line before s e same b =
       inner = λ k name h. omega (arith, starts, ends, b.inner k name (sym (same k) ∙ h));
     }
 
-start_inner : (name : List ℕ) (before : List Line) → IsBalanced before → (k : ℕ) (it : List ℕ) → innermost k (Start name ∷ before) ≡ Some it → count_by is_end (Start name ∷ before) + k < count_by is_start (Start name ∷ before)
+start_inner : (name : List ℕ) (before : List Line) → IsBalanced before → (k : ℕ) (it : List ℕ) → innermost k (Start name ∷ before) ≡ Some it
+    → count_by is_end (Start name ∷ before) + k < count_by is_start (Start name ∷ before)
 start_inner name before b zero it h = omega (arith, b.ends, one_more is_start (Start name) before, one_more is_end (Start name) before)
 start_inner name before b (suc k) it h = omega (arith, b.inner k it h, one_more is_start (Start name) before, one_more is_end (Start name) before)
 

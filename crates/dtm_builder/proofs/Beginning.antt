@@ -26,7 +26,8 @@ last line before later =
     ∙ ap (λ (all : List (Result Line Refusal)). all ++ later) (map_join (reverse before) (line ∷ []))
     ∙ append_assoc (in_source before) (given line ∷ []) later
 
-pub flaw_begun : (limits : Limits) (before : List Line) (later : List (Result Line Refusal)) → AreFlawless limits before → flaw_from limits false [] (in_source before ++ later) ≡ flaw_from limits false before later
+pub flaw_begun : (limits : Limits) (before : List Line) (later : List (Result Line Refusal)) → AreFlawless limits before
+    → flaw_from limits false [] (in_source before ++ later) ≡ flaw_from limits false before later
 flaw_begun limits [] later f = refl
 flaw_begun limits (line ∷ before) later f =
     ap (flaw_from limits false []) (last line before later)
@@ -40,14 +41,16 @@ more limits before line rest h =
     ∙ sym (append_assoc (steps_of_events (events_to before)) (steps_of_events (line_events before line)) rest)
     ∙ ap (λ all. all ++ rest) (sym (steps_join (events_to before) (line_events before line)))
 
-pub steps_begun : (limits : Limits) (before : List Line) (later : List (Result Line Refusal)) → AreFlawless limits before → steps_from limits [] (in_source before ++ later) ≡ steps_of_events (events_to before) ++ steps_from limits before later
+pub steps_begun : (limits : Limits) (before : List Line) (later : List (Result Line Refusal)) → AreFlawless limits before
+    → steps_from limits [] (in_source before ++ later) ≡ steps_of_events (events_to before) ++ steps_from limits before later
 steps_begun limits [] later f = refl
 steps_begun limits (line ∷ before) later f =
     ap (steps_from limits []) (last line before later)
     ∙ steps_begun limits before (given line ∷ later) f.1
     ∙ more limits before line (steps_from limits (line ∷ before) later) f.0
 
-pub through_begun : (limits : Limits) (before : List Line) (later : List (Result Line Refusal)) → AreFlawless limits before → steps_through limits [] (in_source before ++ later) ≡ steps_of_events (events_to before) ++ steps_through limits before later
+pub through_begun : (limits : Limits) (before : List Line) (later : List (Result Line Refusal)) → AreFlawless limits before
+    → steps_through limits [] (in_source before ++ later) ≡ steps_of_events (events_to before) ++ steps_through limits before later
 through_begun limits [] later f = refl
 through_begun limits (line ∷ before) later f =
     ap (steps_through limits []) (last line before later)

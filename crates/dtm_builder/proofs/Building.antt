@@ -39,7 +39,8 @@ pub sound : (limits : Limits) (before : List Line) (line : Line) → AreFlawless
 sound limits before line f r h l = record {
   balanced = (balanced limits before f).ends;
   open_elements = open_at_end limits before line f h;
-  start_legible = legible (bindings 0 before) (depth before) (completed_start before line) (completed_readable before line r) (bindings_text 0 before r) (no_kind _ _ (start_good limits before line h));
+  start_legible = legible (bindings 0 before) (depth before) (completed_start before line) (completed_readable before line r) (bindings_text 0 before r)
+      (no_kind _ _ (start_good limits before line h));
   text = pending_utf8 before r;
   readable = l;
 }

@@ -18,7 +18,8 @@ instruction_readable = (refl, ascii_text (116 ∷ []) refl, ascii_text (100 ∷ 
 pub end_readable : IsReadable (End (97 ∷ []))
 end_readable = (refl, ascii_text (97 ∷ []) refl)
 
-pub three_rows : (start instruction end : Line) (steps : List Step) → start ≡ Start (97 ∷ []) → instruction ≡ Instruction (116 ∷ []) (100 ∷ []) → end ≡ End (97 ∷ []) → steps ≡ steps_of_events (events_to (end ∷ instruction ∷ start ∷ [])) → 2 < length (rows_of steps)
+pub three_rows : (start instruction end : Line) (steps : List Step) → start ≡ Start (97 ∷ []) → instruction ≡ Instruction (116 ∷ []) (100 ∷ []) → end ≡ End (97 ∷ [])
+    → steps ≡ steps_of_events (events_to (end ∷ instruction ∷ start ∷ [])) → 2 < length (rows_of steps)
 three_rows start instruction end steps s i e is =
     subst (λ (all : List Step). 2 < length (rows_of all)) (sym is)
     (subst (λ (line : Line). 2 < length (rows_of (steps_of_events (events_to (end ∷ instruction ∷ line ∷ []))))) (sym s)

@@ -68,7 +68,8 @@ module _ {X : Type 0} (eq : X → X → Bool) where
           let out : has x seen ≡ false = subst (λ q. has q seen ≡ false) is h in
           let put : has x (seen ++ n ∷ []) ≡ true = has_pushed x n seen ∙ ap (λ b. has x seen || b) (subst (λ q. eq x q ≡ true) (sym is) (self x)) ∙ or_true (has x seen) in
           let weight : w n ≡ w x = ap w is in
-          let step : new_sum w seen xs ≡ new_sum w (seen ++ n ∷ []) xs + cond (has x xs) (w n) 0 = subst (λ q. new_sum w seen xs ≡ new_sum w (seen ++ n ∷ []) xs + cond (has q xs) (w n) 0) is (one_more w seen n xs h) in
+          let step : new_sum w seen xs ≡ new_sum w (seen ++ n ∷ []) xs + cond (has x xs) (w n) 0 =
+          subst (λ q. new_sum w seen xs ≡ new_sum w (seen ++ n ∷ []) xs + cond (has q xs) (w n) 0) is (one_more w seen n xs h) in
           elim (cases_Bool (has x xs)) [
             | inl f ↦ rw (e, put, out, f) (rw f at step)
             | inr f ↦

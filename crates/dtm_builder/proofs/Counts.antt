@@ -1,5 +1,6 @@
 -- The names of lines are those of the table that is built of them. The lines before are given with the latest first.
-use Rattle.std.proofs.Common.{◌≡◌, ℕ, ◌+◌, ◌<◌, Bool, true, false, cond, not, List, [], ◌∷◌, ◌++◌, length, Option, Some, None, refl, ap, ap₂, sym, ◌∙◌, subst, arith, inl, inr, append_assoc, append-nil}
+use Rattle.std.proofs.Common.{◌≡◌, ℕ, ◌+◌, ◌<◌, Bool, true, false, cond, not, List, [], ◌∷◌, ◌++◌, length, Option, Some, None, refl, ap, ap₂, sym}
+use Rattle.std.proofs.Common.{◌∙◌, subst, arith, inl, inr, append_assoc, append-nil}
 use Rattle.std.proofs.lemmas.Bool.{cases_Bool, false≢true}
 use Rattle.std.proofs.lemmas.Bool.Decides.{nat_tests}
 use Rattle.doc_model.specs.declared.row.Row.{Row}
@@ -39,17 +40,22 @@ rows_after xs ys = ap (λ (rows : List Row). root_row ∷ rows) (rows_are (xs ++
 pub names_before : (before : List Line) → names_of false (events_to before) ≡ table_names (rows_of (steps_of_events (events_to before)))
 names_before before = names_are (events_to before) (no_root before)
 
-pub names_started : (before : List Line) (start : Option PendingStart) → names_of false (events_to before ++ completed before start) ≡ table_names (rows_of (steps_of_events (events_to before)) ++ node_rows (completed before start))
+pub names_started : (before : List Line) (start : Option PendingStart)
+    → names_of false (events_to before ++ completed before start) ≡ table_names (rows_of (steps_of_events (events_to before)) ++ node_rows (completed before start))
 names_started before start =
-    names_are (events_to before ++ completed before start) (no_root_both (events_to before) (completed before start) (no_root before) (start_no_root (uris_to before) (bindings 0 before) (depth before) start))
+    names_are (events_to before ++ completed before start)
+    (no_root_both (events_to before) (completed before start) (no_root before) (start_no_root (uris_to before) (bindings 0 before) (depth before) start))
     ∙ ap table_names (rows_after (events_to before) (completed before start))
 
-names_all : (before : List Line) (line : Line) → names_of false (events_to (line ∷ before)) ≡ table_names ((rows_of (steps_of_events (events_to before)) ++ node_rows (completed before (completed_start before line))) ++ node_rows (own_events before line))
+names_all : (before : List Line) (line : Line)
+    → names_of false (events_to (line ∷ before))
+    ≡ table_names ((rows_of (steps_of_events (events_to before)) ++ node_rows (completed before (completed_start before line))) ++ node_rows (own_events before line))
 names_all before line =
     let rows = rows_of (steps_of_events (events_to before)) in
     let first = completed before (completed_start before line) in
     names_before (line ∷ before)
-    ∙ ap table_names (rows_after (events_to before) (line_events before line) ∙ ap (λ (more : List Row). rows ++ more) (rows_join first (own_events before line)) ∙ sym (append_assoc rows (node_rows first) (node_rows (own_events before line))))
+    ∙ ap table_names (rows_after (events_to before) (line_events before line) ∙ ap (λ (more : List Row). rows ++ more) (rows_join first (own_events before line))
+    ∙ sym (append_assoc rows (node_rows first) (node_rows (own_events before line))))
 
 -- rows without a name add none
 none_more : (rows : List Row) (events : List Event) → AddsNone events → table_names (rows ++ node_rows events) ≡ table_names rows
@@ -65,7 +71,8 @@ attributes_differ bound deep n target value (it ∷ lines) = elim (cases_Bool (i
   | inr e ↦ rw e (attributes_differ bound deep n target value lines)
 ]
 
-start_differs : (uris : List (List ℕ)) (bound : List Binding) (deep n : ℕ) (target value : List ℕ) (start : Option PendingStart) → has_type_of (instruction_row n target value) (node_rows (start_node uris bound deep start)) ≡ false
+start_differs : (uris : List (List ℕ)) (bound : List Binding) (deep n : ℕ) (target value : List ℕ) (start : Option PendingStart)
+    → has_type_of (instruction_row n target value) (node_rows (start_node uris bound deep start)) ≡ false
 start_differs uris bound deep n target value None = refl
 start_differs uris bound deep n target value (Some it) =
     ap (has_type_of (instruction_row n target value)) (append-nil (attribute_rows bound (deep + 1) it.attributes)) ∙ attributes_differ bound (deep + 1) n target value it.attributes
@@ -114,7 +121,8 @@ plain_adds : (before : List Line) (line : Line) (own : NewNames) → AddsNone (o
 plain_adds before line own none a =
     let rows = rows_of (steps_of_events (events_to before)) in
     let more = node_rows (completed before (completed_start before line)) in
-    subst (λ (names : Names). Adds (table_names (rows ++ more)) own names) (sym (names_all before line ∙ none_more (rows ++ more) (own_events before line) none)) (no_new rows (table_names (rows ++ more)) own a)
+    subst (λ (names : Names). Adds (table_names (rows ++ more)) own names) (sym (names_all before line ∙ none_more (rows ++ more) (own_events before line) none))
+    (no_new rows (table_names (rows ++ more)) own a)
 
 nothing : AddsNone []
 nothing = ((λ seen. refl), (λ seen. refl))
@@ -122,14 +130,16 @@ nothing = ((λ seen. refl), (λ seen. refl))
 -- a comment has no name
 comment_adds : (before : List Line) (text : List ℕ) → AddsNone (own_events before (Comment text))
 comment_adds before text =
-    both_add_none (ended_text before) (plain_node (comment_row (depth before + 1) text) (length before + 1) ∷ []) (text_adds_none (depth before + 1) (length before + 1) (pending_text before)) ((λ seen. refl), (λ seen. refl))
+    both_add_none (ended_text before) (plain_node (comment_row (depth before + 1) text) (length before + 1) ∷ [])
+    (text_adds_none (depth before + 1) (length before + 1) (pending_text before)) ((λ seen. refl), (λ seen. refl))
 
 -- what the line's own node adds to the names after the start that it completes
 pub own_adds : (before : List Line) (line : Line) (own : NewNames) → AddsNames (rows_of (steps_of_events (events_to before))) (own_rows line) own
     → Adds (table_names (rows_of (steps_of_events (events_to before)) ++ node_rows (completed before (completed_start before line)))) own (names_of false (events_to (line ∷ before)))
 own_adds before (Start name) own a = plain_adds before (Start name) own (text_adds_none (depth before + 1) (length before + 1) (pending_text before)) a
 own_adds before (End name) own a =
-    plain_adds before (End name) own (both_add_none (ended_text before) (event.Shut ∷ []) (text_adds_none (depth before + 1) (length before + 1) (pending_text before)) ((λ seen. refl), (λ seen. refl))) a
+    plain_adds before (End name) own
+    (both_add_none (ended_text before) (event.Shut ∷ []) (text_adds_none (depth before + 1) (length before + 1) (pending_text before)) ((λ seen. refl), (λ seen. refl))) a
 own_adds before (Attr name value) own a = plain_adds before (Attr name value) own nothing a
 own_adds before (Text text) own a = plain_adds before (Text text) own nothing a
 own_adds before (Instruction target value) own a =
@@ -141,7 +151,8 @@ own_adds before (Instruction target value) own a =
     let node = plain_node (instruction_row (depth before + 1) target value) (length before + 1) in
     let target_row = instruction_row 0 target [] in
     let here : names_of false (events_to (Instruction target value ∷ before)) ≡ table_names ((all ++ texts) ++ instruction_row (depth before + 1) target value ∷ []) =
-    names_all before (Instruction target value) ∙ ap (λ (more : List Row). table_names (all ++ more)) (rows_join (ended_text before) (node ∷ [])) ∙ ap table_names (sym (append_assoc all texts (instruction_row (depth before + 1) target value ∷ []))) in
+    names_all before (Instruction target value) ∙ ap (λ (more : List Row). table_names (all ++ more)) (rows_join (ended_text before) (node ∷ []))
+    ∙ ap table_names (sym (append_assoc all texts (instruction_row (depth before + 1) target value ∷ []))) in
     let names : names_from [] (all ++ texts) ≡ names_from [] all = names_from-append [] all texts ∙ none.0 (names_from [] all) in
     let same : has_new_name rows target_row ≡ has_new_name (all ++ texts) target_row =
     still_new rows (node_rows (completed before start)) target_row (start_differs (uris_to before) (bindings 0 before) (depth before) 0 target [] start)
@@ -197,14 +208,16 @@ is_instruction (Instruction target value) = true
 is_instruction (Comment text) = false
 is_instruction Passed = false
 
-plain_same : (before : List Line) (line : Line) → AddsNone (own_events before line) → names_of false (events_to (line ∷ before)) ≡ names_of false (events_to before ++ completed before (completed_start before line))
+plain_same : (before : List Line) (line : Line) → AddsNone (own_events before line)
+    → names_of false (events_to (line ∷ before)) ≡ names_of false (events_to before ++ completed before (completed_start before line))
 plain_same before line none =
     names_all before line
     ∙ none_more (rows_of (steps_of_events (events_to before)) ++ node_rows (completed before (completed_start before line))) (own_events before line) none
     ∙ sym (names_started before (completed_start before line))
 
 -- the names after a line that is no instruction are those after the start that it completes
-pub names_kept : (before : List Line) (line : Line) → is_instruction line ≡ false → names_of false (events_to (line ∷ before)) ≡ names_of false (events_to before ++ completed before (completed_start before line))
+pub names_kept : (before : List Line) (line : Line) → is_instruction line ≡ false
+    → names_of false (events_to (line ∷ before)) ≡ names_of false (events_to before ++ completed before (completed_start before line))
 names_kept before (Start name) h = plain_same before (Start name) (text_adds_none (depth before + 1) (length before + 1) (pending_text before))
 names_kept before (End name) h =
     plain_same before (End name) (both_add_none (ended_text before) (event.Shut ∷ []) (text_adds_none (depth before + 1) (length before + 1) (pending_text before)) ((λ seen. refl), (λ seen. refl)))

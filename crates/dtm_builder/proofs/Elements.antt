@@ -29,10 +29,12 @@ pub at_first : (events : List Event) (x : Event) → slice_get events 0 ≡ Some
 at_first [] x h = absurd (none_some x h)
 at_first (y ∷ rest) x h = (rest, ap (λ z. z ∷ rest) (some_is y x h))
 
-pub rows_first : (events rest : List Event) (row : Row) (attributes : List Row) (declarations : List Binding) (uris : List ℕ) (line : ℕ) → events ≡ Node row attributes declarations uris line ∷ rest → is_element row.kind ≡ true → element_rows events ≡ row ∷ attributes
+pub rows_first : (events rest : List Event) (row : Row) (attributes : List Row) (declarations : List Binding) (uris : List ℕ) (line : ℕ)
+    → events ≡ Node row attributes declarations uris line ∷ rest → is_element row.kind ≡ true → element_rows events ≡ row ∷ attributes
 rows_first events rest row attributes declarations uris line e h = ap element_rows e ∙ ap (λ b. cond b (row ∷ attributes) []) h
 
-pub flaw_first : (events rest : List Event) (row : Row) (attributes : List Row) (declarations : List Binding) (uris : List ℕ) (line : ℕ) (kind : Option FlawKind) → events ≡ Node row attributes declarations uris line ∷ rest → is_element row.kind ≡ true → element_flaw events kind ≡ at_line line kind None
+pub flaw_first : (events rest : List Event) (row : Row) (attributes : List Row) (declarations : List Binding) (uris : List ℕ) (line : ℕ) (kind : Option FlawKind)
+    → events ≡ Node row attributes declarations uris line ∷ rest → is_element row.kind ≡ true → element_flaw events kind ≡ at_line line kind None
 flaw_first events rest row attributes declarations uris line kind e h = ap (λ all. element_flaw all kind) e ∙ ap (λ b. cond b (at_line line kind None) None) h
 
 pub adds_of : (rows more : List Row) (new : NewNames) → AddsNames rows more new → Adds (table_names rows) new (table_names (rows ++ more))
@@ -58,8 +60,12 @@ own_none before (Start name) = subst HasNone (append-nil (ended_text before)) (t
 own_none before (End name) = text_none (depth before + 1) (length before + 1) (pending_text before) (Shut ∷ []) (record { rows = refl; flaw = λ kind. refl; numbered = λ uris. tt })
 own_none before (Attr name value) = nothing
 own_none before (Text text) = nothing
-own_none before (Instruction target value) = text_none (depth before + 1) (length before + 1) (pending_text before) (plain_node (instruction_row (depth before + 1) target value) (length before + 1) ∷ []) (record { rows = refl; flaw = λ kind. refl; numbered = λ uris is. absurd (false≢true is) })
-own_none before (Comment text) = text_none (depth before + 1) (length before + 1) (pending_text before) (plain_node (comment_row (depth before + 1) text) (length before + 1) ∷ []) (record { rows = refl; flaw = λ kind. refl; numbered = λ uris is. absurd (false≢true is) })
+own_none before (Instruction target value) =
+    text_none (depth before + 1) (length before + 1) (pending_text before) (plain_node (instruction_row (depth before + 1) target value) (length before + 1) ∷ [])
+    (record { rows = refl; flaw = λ kind. refl; numbered = λ uris is. absurd (false≢true is) })
+own_none before (Comment text) =
+    text_none (depth before + 1) (length before + 1) (pending_text before) (plain_node (comment_row (depth before + 1) text) (length before + 1) ∷ [])
+    (record { rows = refl; flaw = λ kind. refl; numbered = λ uris is. absurd (false≢true is) })
 own_none before Passed = nothing
 
 -- the first of a line's events is the node of the start that it completes, if there is one
@@ -68,12 +74,20 @@ pub record IsFirst (events node : List Event) (start : Option PendingStart) : Ty
   pub flaw : (kind : Option FlawKind) → element_flaw events kind ≡ at_line (start_line start) (if_pending start kind) None
   pub numbered : (uris : List (List ℕ)) → AreNodesNumbered uris node → IsNumbered uris events
 
-start_first : (uris : List (List ℕ)) (bound : List Binding) (deep : ℕ) (start : Option PendingStart) (more : List Event) → HasNone more → IsFirst (start_node uris bound deep start ++ more) (start_node uris bound deep start) start
+start_first : (uris : List (List ℕ)) (bound : List Binding) (deep : ℕ) (start : Option PendingStart) (more : List Event) → HasNone more
+    → IsFirst (start_node uris bound deep start ++ more) (start_node uris bound deep start) start
 start_first uris bound deep None more h = record { rows = h.rows; flaw = h.flaw; numbered = λ among are. h.numbered among }
-start_first uris bound deep (Some it) more h = record { rows = ap (λ (rows : List Row). element_row bound deep it.name ∷ rows) (sym (append-nil (attribute_rows bound (deep + 1) it.attributes))); flaw = λ kind. refl; numbered = λ among are is. are.0 }
+start_first uris bound deep (Some it) more h =
+    record {
+      rows = ap (λ (rows : List Row). element_row bound deep it.name ∷ rows) (sym (append-nil (attribute_rows bound (deep + 1) it.attributes)));
+      flaw =
+          λ kind. refl;
+      numbered = λ among are is. are.0;
+    }
 
 pub line_first : (before : List Line) (line : Line) → IsFirst (line_events before line) (completed before (completed_start before line)) (completed_start before line)
 line_first before line = start_first (uris_to before) (bindings 0 before) (depth before) (completed_start before line) (own_events before line) (own_none before line)
 
 pub node_first : (before : List Line) (start : Option PendingStart) → IsFirst (completed before start) (completed before start) start
-node_first before start = subst (λ (events : List Event). IsFirst events (completed before start) start) (append-nil (completed before start)) (start_first (uris_to before) (bindings 0 before) (depth before) start [] nothing)
+node_first before start = subst (λ (events : List Event). IsFirst events (completed before start) start) (append-nil (completed before start))
+    (start_first (uris_to before) (bindings 0 before) (depth before) start [] nothing)

@@ -27,7 +27,8 @@ room limits before f fits =
     let bytes = same_bytes rows (no_root before) in
     let names_fit : length (names_from [] rows) + length (prefixes_from [] rows) ≤ limits.names = subst (λ n. n ≤ limits.names) (sym count) names.count in
     let text : taken.value_bytes (root_row ∷ rows) ≡ measure row_value (events_to before) = sum ∙ omega arith in
-    let bytes_fit : value_bytes before + (name_bytes (names_from [] rows) + prefix_bytes (prefixes_from [] rows)) ≤ limits.text = subst (λ n. value_bytes before + n ≤ limits.text) (sym bytes) names.bytes in
+    let bytes_fit : value_bytes before + (name_bytes (names_from [] rows) + prefix_bytes (prefixes_from [] rows)) ≤ limits.text =
+    subst (λ n. value_bytes before + n ≤ limits.text) (sym bytes) names.bytes in
     subst (λ (given : List Row). HasRoom limits (root_row ∷ given)) (sym (rows_are (events_to before))) (record {
       rows = omega (arith, all, counted, fits);
       names = names_fit;

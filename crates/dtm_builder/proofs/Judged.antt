@@ -21,7 +21,8 @@ use Rattle.dtm_builder.proofs.Elements.{IsFirst, line_first}
 pub names_stand : (builder : Builder) (limits : Limits) (cells : Cells) (before : List Line) → Stands builder limits cells before → IsCount builder.names (table_names (rows_of cells.steps))
 names_stand builder limits cells before s = subst (λ (names : Names). IsCount builder.names names) (names_before before ∙ ap (λ (steps : List Step). table_names (rows_of steps)) (sym s.steps)) s.names
 
-pub own_stands : (before : List Line) (line : Line) (events : List Event) (steps : List Step) (own : NewNames) → steps ≡ steps_of_events (events_to before) → events ≡ line_events before line → AddsNames (rows_of steps) (own_rows line) own
+pub own_stands : (before : List Line) (line : Line) (events : List Event) (steps : List Step) (own : NewNames) → steps ≡ steps_of_events (events_to before)
+    → events ≡ line_events before line → AddsNames (rows_of steps) (own_rows line) own
     → Adds (table_names (rows_of steps ++ element_rows events)) own (names_of false (events_to (line ∷ before)))
 own_stands before line events steps own is e added =
     let all = names_of false (events_to (line ∷ before)) in

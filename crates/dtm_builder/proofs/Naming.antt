@@ -1,5 +1,6 @@
 -- The names of flawless lines stay within the limits. The lines before are given with the latest first.
-use Rattle.std.proofs.Common.{◌≡◌, ℕ, ◌+◌, ◌≤◌, ◌==◌, Bool, true, false, cond, not, ◌&&◌, List, [], ◌∷◌, ◌++◌, length, Option, Some, None, refl, ap, ap₂, sym, ◌∙◌, subst, arith, inl, inr, append_assoc, append-nil}
+use Rattle.std.proofs.Common.{◌≡◌, ℕ, ◌+◌, ◌≤◌, ◌==◌, Bool, true, false, cond, not, ◌&&◌, List, [], ◌∷◌, ◌++◌, length, Option, Some, None, refl, ap}
+use Rattle.std.proofs.Common.{ap₂, sym, ◌∙◌, subst, arith, inl, inr, append_assoc, append-nil}
 use Rattle.std.specs.Prelude.{nat_lt, is_some}
 use Rattle.std.specs.List.{list_all}
 use Rattle.std.proofs.lemmas.Bool.{cases_Bool, false≢true}
@@ -121,10 +122,13 @@ both_add_none xs ys h k = (
   (λ seen. ap (prefixes_from seen) (rows_join xs ys) ∙ prefixes_from-append seen (node_rows xs) (node_rows ys) ∙ ap (λ all. prefixes_from all (node_rows ys)) (h.1 seen) ∙ k.1 seen),
 )
 
-pub same_after : (limits : Limits) (values : ℕ) (xs ys : List Event) → HaveNoRoot (node_rows xs) → HaveNoRoot (node_rows ys) → AddsNone ys → IsIn limits values (names_of false xs) → IsIn limits values (names_of false (xs ++ ys))
+pub same_after : (limits : Limits) (values : ℕ) (xs ys : List Event) → HaveNoRoot (node_rows xs) → HaveNoRoot (node_rows ys) → AddsNone ys → IsIn limits values (names_of false xs)
+    → IsIn limits values (names_of false (xs ++ ys))
 same_after limits values xs ys h k a i =
-    let n : names_from [] (node_rows (xs ++ ys)) ≡ names_from [] (node_rows xs) = ap (names_from []) (rows_join xs ys) ∙ names_from-append [] (node_rows xs) (node_rows ys) ∙ a.0 (names_from [] (node_rows xs)) in
-    let p : prefixes_from [] (node_rows (xs ++ ys)) ≡ prefixes_from [] (node_rows xs) = ap (prefixes_from []) (rows_join xs ys) ∙ prefixes_from-append [] (node_rows xs) (node_rows ys) ∙ a.1 (prefixes_from [] (node_rows xs)) in
+    let n : names_from [] (node_rows (xs ++ ys)) ≡ names_from [] (node_rows xs) =
+    ap (names_from []) (rows_join xs ys) ∙ names_from-append [] (node_rows xs) (node_rows ys) ∙ a.0 (names_from [] (node_rows xs)) in
+    let p : prefixes_from [] (node_rows (xs ++ ys)) ≡ prefixes_from [] (node_rows xs) =
+    ap (prefixes_from []) (rows_join xs ys) ∙ prefixes_from-append [] (node_rows xs) (node_rows ys) ∙ a.1 (prefixes_from [] (node_rows xs)) in
     let all = no_root_both xs ys h k in
     let count : Names.count (names_of false (xs ++ ys)) ≡ Names.count (names_of false xs) =
     sym (same_count (node_rows (xs ++ ys)) all) ∙ ap₂ (λ a b. length a + length b) n p ∙ same_count (node_rows xs) h in
@@ -132,7 +136,8 @@ same_after limits values xs ys h k a i =
     sym (same_bytes (node_rows (xs ++ ys)) all) ∙ ap₂ (λ a b. name_bytes a + prefix_bytes b) n p ∙ same_bytes (node_rows xs) h in
     record { count = subst (λ m. m ≤ limits.names) (sym count) i.count; bytes = subst (λ m. values + m ≤ limits.text) (sym bytes) i.bytes }
 
-pub completed_in : (limits : Limits) (before : List Line) (it : Option PendingStart) → completed_flaw limits false before it ≡ None → IsIn limits (value_bytes before) (names_of false (events_to before)) → IsIn limits (value_bytes before) (names_of false (events_to before ++ completed before it))
+pub completed_in : (limits : Limits) (before : List Line) (it : Option PendingStart) → completed_flaw limits false before it ≡ None
+    → IsIn limits (value_bytes before) (names_of false (events_to before)) → IsIn limits (value_bytes before) (names_of false (events_to before ++ completed before it))
 completed_in limits before None h i = subst (λ events. IsIn limits (value_bytes before) (names_of false events)) (sym (append-nil (events_to before))) i
 completed_in limits before (Some it) h i = no_flaw limits _ (value_bytes before) (later_good _ _ h)
 
@@ -142,7 +147,8 @@ within limits [] f = record { count = omega arith; bytes = omega arith }
 within limits (Start name ∷ before) f =
     let c = completed_in limits before (pending_start before) (start_good limits before (Start name) f.0) (within limits before f.1) in
     let r = no_root_both (events_to before) (completed before (pending_start before)) (no_root before) (start_no_root _ _ _ (pending_start before)) in
-    let s = same_after limits (value_bytes before) (events_to before ++ completed before (pending_start before)) (ended_text before) r (text_no_root _ _ (pending_text before)) (text_adds_none _ _ (pending_text before)) c in
+    let s = same_after limits (value_bytes before) (events_to before ++ completed before (pending_start before)) (ended_text before) r (text_no_root _ _ (pending_text before))
+    (text_adds_none _ _ (pending_text before)) c in
     let t = subst (λ events. IsIn limits (value_bytes before) (names_of false events)) (append_assoc (events_to before) (completed before (pending_start before)) (ended_text before)) s in
     record { count = t.count; bytes = omega (arith, t.bytes) }
 within limits (End name ∷ before) f =
@@ -150,7 +156,8 @@ within limits (End name ∷ before) f =
     let r = no_root_both (events_to before) (completed before (pending_start before)) (no_root before) (start_no_root _ _ _ (pending_start before)) in
     let own = ended_text before ++ event.Shut ∷ [] in
     let none = both_add_none (ended_text before) (event.Shut ∷ []) (text_adds_none _ _ (pending_text before)) ((λ seen. refl), (λ seen. refl)) in
-    let s = same_after limits (value_bytes before) (events_to before ++ completed before (pending_start before)) own r (no_root_both (ended_text before) (event.Shut ∷ []) (text_no_root _ _ (pending_text before)) tt) none c in
+    let s = same_after limits (value_bytes before) (events_to before ++ completed before (pending_start before)) own r
+    (no_root_both (ended_text before) (event.Shut ∷ []) (text_no_root _ _ (pending_text before)) tt) none c in
     let t = subst (λ events. IsIn limits (value_bytes before) (names_of false events)) (append_assoc (events_to before) (completed before (pending_start before)) own) s in
     record { count = t.count; bytes = omega (arith, t.bytes) }
 within limits (Attr name value ∷ before) f =
@@ -158,21 +165,29 @@ within limits (Attr name value ∷ before) f =
     elim (cases_Bool (is_declaration name)) [
       | inl e ↦ record { count = i.count; bytes = rw e (omega (arith, i.bytes)) }
       | inr e ↦
-          let good = attribute_good (not (is_some (pending_start before))) (is_full (pending_start before)) (is_declaration name) (row_count before == limits.rows) (nat_lt limits.text (value_bytes before + Names.bytes (names_of false (events_to (Attr name value ∷ before))) + length value)) kind.AttrPlace kind.TooManyAttrs kind.TooManyNodes kind.TooMuchText (own_good limits before (Attr name value) f.0) e in
+          let good = attribute_good (not (is_some (pending_start before))) (is_full (pending_start before)) (is_declaration name) (row_count before == limits.rows)
+          (nat_lt limits.text (value_bytes before + Names.bytes
+          (names_of false (events_to (Attr name value ∷ before))) + length value)) kind.AttrPlace kind.TooManyAttrs kind.TooManyNodes kind.TooMuchText
+          (own_good limits before (Attr name value) f.0) e in
           let fits = at_most limits.text (value_bytes before + Names.bytes (names_of false (events_to (Attr name value ∷ before))) + length value) good in
           record { count = i.count; bytes = rw e (omega (arith, fits)) }
     ]
 within limits (Text text ∷ before) f =
     let c = completed_in limits before (pending_start before) (start_good limits before (Text text) f.0) (within limits before f.1) in
     let t = subst (λ events. IsIn limits (value_bytes before) (names_of false (events_to before ++ events))) (sym (append-nil (completed before (pending_start before)))) c in
-    let good = three_good (depth before == 0 && not (list_all is_white text)) (begins_text before text && row_count before == limits.rows) (nat_lt limits.text (value_bytes before + Names.bytes (names_of false (events_to (Text text ∷ before))) + length text)) kind.TextOutside kind.TooManyNodes kind.TooMuchText (own_good limits before (Text text) f.0) in
+    let good = three_good (depth before == 0 && not (list_all is_white text)) (begins_text before text && row_count before == limits.rows)
+    (nat_lt limits.text (value_bytes before + Names.bytes (names_of false (events_to (Text text ∷ before))) + length text)) kind.TextOutside kind.TooManyNodes kind.TooMuchText
+    (own_good limits before (Text text) f.0) in
     let fits = at_most limits.text (value_bytes before + Names.bytes (names_of false (events_to (Text text ∷ before))) + length text) good.1 in
     elim (cases_Bool (depth before == 0)) [
       | inl e ↦ record { count = t.count; bytes = rw e (omega (arith, fits)) }
       | inr e ↦ record { count = t.count; bytes = rw e (omega (arith, fits)) }
     ]
 within limits (Instruction target value ∷ before) f =
-    let good = three_good (row_count before == limits.rows) (nat_lt limits.names (Names.count (names_of false (events_to (Instruction target value ∷ before))))) (nat_lt limits.text (value_bytes before + Names.bytes (names_of false (events_to (Instruction target value ∷ before))) + length value)) kind.TooManyNodes kind.TooManyNames kind.TooMuchText (own_good limits before (Instruction target value) f.0) in
+    let good = three_good (row_count before == limits.rows) (nat_lt limits.names (Names.count (names_of false (events_to (Instruction target value ∷ before)))))
+    (nat_lt limits.text (value_bytes before + Names.bytes
+    (names_of false (events_to (Instruction target value ∷ before))) + length value)) kind.TooManyNodes kind.TooManyNames kind.TooMuchText
+    (own_good limits before (Instruction target value) f.0) in
     let fits = at_most limits.text (value_bytes before + Names.bytes (names_of false (events_to (Instruction target value ∷ before))) + length value) good.1 in
     record { count = at_most limits.names (Names.count (names_of false (events_to (Instruction target value ∷ before)))) good.0; bytes = omega (arith, fits) }
 within limits (Comment text ∷ before) f =
@@ -181,9 +196,12 @@ within limits (Comment text ∷ before) f =
     let node = plain_node (comment_row (depth before + 1) text) (length before + 1) ∷ [] in
     let own = ended_text before ++ node in
     let none = both_add_none (ended_text before) node (text_adds_none _ _ (pending_text before)) ((λ seen. refl), (λ seen. refl)) in
-    let s = same_after limits (value_bytes before) (events_to before ++ completed before (pending_start before)) own r (no_root_both (ended_text before) node (text_no_root _ _ (pending_text before)) ((λ h. cc), tt)) none c in
+    let s = same_after limits (value_bytes before) (events_to before ++ completed before (pending_start before)) own r
+    (no_root_both (ended_text before) node (text_no_root _ _ (pending_text before)) ((λ h. cc), tt)) none c in
     let t = subst (λ events. IsIn limits (value_bytes before) (names_of false events)) (append_assoc (events_to before) (completed before (pending_start before)) own) s in
-    let good = two_good (row_count before == limits.rows) (nat_lt limits.text (value_bytes before + Names.bytes (names_of false (events_to (Comment text ∷ before))) + length text)) kind.TooManyNodes kind.TooMuchText (own_good limits before (Comment text) f.0) in
+    let good = two_good (row_count before == limits.rows)
+    (nat_lt limits.text (value_bytes before + Names.bytes (names_of false (events_to (Comment text ∷ before))) + length text)) kind.TooManyNodes kind.TooMuchText
+    (own_good limits before (Comment text) f.0) in
     let fits = at_most limits.text (value_bytes before + Names.bytes (names_of false (events_to (Comment text ∷ before))) + length text) good.1 in
     record { count = t.count; bytes = omega (arith, fits) }
 within limits (Passed ∷ before) f =

@@ -55,10 +55,12 @@ pub steps_join : (xs ys : List Event) → steps_of_events (xs ++ ys) ≡ steps_o
 steps_join [] ys = refl
 steps_join (x ∷ xs) ys = ap (λ all. step_of x ∷ all) (steps_join xs ys)
 
-pub leads_both : (d : Document) (xs ys : List Event) (m n : ℕ) → Leads d (steps_of_events xs) m → ((e : Document) → IsOpen e m → Leads e (steps_of_events ys) n) → Leads d (steps_of_events (xs ++ ys)) n
+pub leads_both : (d : Document) (xs ys : List Event) (m n : ℕ) → Leads d (steps_of_events xs) m → ((e : Document) → IsOpen e m → Leads e (steps_of_events ys) n)
+    → Leads d (steps_of_events (xs ++ ys)) n
 leads_both d xs ys m n a b = subst (λ all. Leads d all n) (sym (steps_join xs ys)) (leads_join d (steps_of_events xs) (steps_of_events ys) m n a b)
 
-pub leads_after : (d : Document) (xs ys : List Event) (n : ℕ) → LawfulFrom d (steps_of_events xs) → Leads (document_from d (steps_of_events xs)) (steps_of_events ys) n → Leads d (steps_of_events (xs ++ ys)) n
+pub leads_after : (d : Document) (xs ys : List Event) (n : ℕ) → LawfulFrom d (steps_of_events xs) → Leads (document_from d (steps_of_events xs)) (steps_of_events ys) n
+    → Leads d (steps_of_events (xs ++ ys)) n
 leads_after d xs ys n l a = subst (λ all. Leads d all n) (sym (steps_join xs ys)) (record {
   lawful = lawful_join d (steps_of_events xs) (steps_of_events ys) l a.lawful;
   left = subst (λ e. IsOpen e n) (sym (document_join d (steps_of_events xs) (steps_of_events ys))) a.left;
@@ -77,7 +79,8 @@ abbrev pub IsLegibleStart : List Binding → ℕ → Option PendingStart → Typ
 IsLegibleStart bound deep None = Unit {0}
 IsLegibleStart bound deep (Some it) = all_legible (element_row bound deep it.name ∷ attribute_rows bound (deep + 1) it.attributes) ≡ true
 
-element_leads : (d : Document) (uris : List (List ℕ)) (bound : List Binding) (deep : ℕ) (it : PendingStart) → IsOpen d deep → IsLegibleStart bound deep (Some it) → Leads d (steps_of_events (element_node uris bound deep it ∷ [])) (deep + 1)
+element_leads : (d : Document) (uris : List (List ℕ)) (bound : List Binding) (deep : ℕ) (it : PendingStart) → IsOpen d deep → IsLegibleStart bound deep (Some it)
+    → Leads d (steps_of_events (element_node uris bound deep it ∷ [])) (deep + 1)
 element_leads d uris bound deep it o l = record {
   lawful = (o.going, record { kind = refl; depth = sym o.opened; bare = λ e. absurd (false≢true (sym e)); carried = all_attributes bound deep it.attributes; legible = l }, tt);
   left = record { going = o.going; opened = omega (arith, o.opened) };
@@ -88,7 +91,8 @@ abbrev pub pending_count : Option PendingStart → ℕ
 pending_count None = 0
 pending_count (Some it) = 1
 
-start_leads : (d : Document) (uris : List (List ℕ)) (bound : List Binding) (deep n : ℕ) (it : Option PendingStart) → IsOpen d n → n + pending_count it ≡ deep + 1 → IsLegibleStart bound deep it → Leads d (steps_of_events (start_node uris bound deep it)) (deep + 1)
+start_leads : (d : Document) (uris : List (List ℕ)) (bound : List Binding) (deep n : ℕ) (it : Option PendingStart) → IsOpen d n → n + pending_count it ≡ deep + 1
+    → IsLegibleStart bound deep it → Leads d (steps_of_events (start_node uris bound deep it)) (deep + 1)
 start_leads d uris bound deep n None o e l = leads_none d (deep + 1) (record { going = o.going; opened = omega (arith, o.opened, e) })
 start_leads d uris bound deep n (Some it) o e l = element_leads d uris bound deep it (record { going = o.going; opened = omega (arith, o.opened, e) }) l
 
@@ -202,7 +206,8 @@ line_leads before (Text text) d n s o e = (
 )
 line_leads before (Instruction target value) d n s o e = (
   depth before + 1,
-  leads_both d (completed before (pending_start before)) (ended_text before ++ plain_node (instruction_row (depth before + 1) target value) (length before + 1) ∷ []) (depth before + 1) (depth before + 1)
+  leads_both d (completed before (pending_start before)) (ended_text before ++ plain_node (instruction_row (depth before + 1) target value) (length before + 1) ∷ [])
+      (depth before + 1) (depth before + 1)
       (start_leads d (uris_to before) (bindings 0 before) (depth before) n (pending_start before) o e s.start_legible)
       (λ q p. leads_both q (ended_text before) (plain_node (instruction_row (depth before + 1) target value) (length before + 1) ∷ []) (depth before + 1) (depth before + 1)
       (text_leads q (depth before + 1) (length before + 1) (pending_text before) p s.text)

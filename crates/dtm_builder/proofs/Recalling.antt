@@ -1,5 +1,6 @@
 -- What is recalled of the names of an element. The lines before are given with the latest first.
-use Rattle.std.proofs.Common.{◌≡◌, ◌⊎◌, ℕ, zero, suc, ◌+◌, ◌-◌, ◌<◌, Bool, true, false, ◌||◌, ◌==◌, cond, List, [], ◌∷◌, ◌++◌, length, get_or, Option, Some, None, refl, ap, sym, ◌∙◌, subst, arith, inl, inr, append-nil}
+use Rattle.std.proofs.Common.{◌≡◌, ◌⊎◌, ℕ, zero, suc, ◌+◌, ◌-◌, ◌<◌, Bool, true, false, ◌||◌, ◌==◌, cond, List, [], ◌∷◌, ◌++◌, length, get_or}
+use Rattle.std.proofs.Common.{Option, Some, None, refl, ap, sym, ◌∙◌, subst, arith, inl, inr, append-nil}
 use Rattle.std.specs.Prelude.{slice_get, is_none, Result, Ok, Err, IfOk}
 use Rattle.std.specs.List.{list_any}
 use Rattle.std.proofs.lemmas.Bool.{cases_Bool, and_from, false≢true}
@@ -105,7 +106,8 @@ start_apart uris bound deep None good = λ j k a b p. absurd (none-some a p)
 start_apart uris bound deep (Some it) good =
     let rows = attribute_rows bound (deep + 1) it.attributes in
     subst (λ (all : List Row). AreApart (element_row bound deep it.name ∷ all)) (sym (append-nil rows))
-    (first_apart (element_row bound deep it.name) rows refl (are_attributes bound (deep + 1) it.attributes) (distinct rows (third_good (is_unbound bound (prefix_of it.name)) (list_any (attribute_unbound bound) it.attributes) (repeats rows) UnboundPrefix UnboundPrefix DuplicateAttr good)))
+    (first_apart (element_row bound deep it.name) rows refl (are_attributes bound (deep + 1) it.attributes)
+    (distinct rows (third_good (is_unbound bound (prefix_of it.name)) (list_any (attribute_unbound bound) it.attributes) (repeats rows) UnboundPrefix UnboundPrefix DuplicateAttr good)))
 
 -- what has to hold of events for what is recalled of them
 pub record CanRecall (before : List Line) (events : List Event) : Type 0 where
@@ -124,7 +126,8 @@ is_nothing : (flaw : Option FlawKind) → is_none flaw ≡ true → flaw ≡ Non
 is_nothing None h = refl
 is_nothing (Some it) h = absurd (false≢true h)
 
-of_first : (before : List Line) (start : Option PendingStart) (events : List Event) → IsFirst events (completed before start) start → start_flaw (bindings 0 before) (depth before) start ≡ None → CanRecall before events
+of_first : (before : List Line) (start : Option PendingStart) (events : List Event) → IsFirst events (completed before start) start
+    → start_flaw (bindings 0 before) (depth before) start ≡ None → CanRecall before events
 of_first before start events first good = record {
   numbered = first.numbered (uris_to before) (completed_numbered before start);
   apart = subst (λ (rows : List Row). AreApart rows) (sym first.rows) (start_apart (uris_to before) (bindings 0 before) (depth before) start good);
@@ -154,7 +157,8 @@ event_known names (y ∷ events) (suc k) x known given within is which first =
     subst (λ (them : List (Option ℕ)). AreKnown 0 names (event_rows x) them) (sym (which ∙ ap (λ b. cond b known []) other)) (nothing_known 0 names (event_rows x))
 
 -- what the index has is the type number of a row with that name
-pub recalled_type : (uris : List (List ℕ)) (names : List Name) (row : Row) (number : ℕ) (local : List ℕ) (n : ℕ) → local ≡ row.local → IsRecalled uris names row.kind number local n → slice_get uris number ≡ Some row.uri
+pub recalled_type : (uris : List (List ℕ)) (names : List Name) (row : Row) (number : ℕ) (local : List ℕ) (n : ℕ) → local ≡ row.local → IsRecalled uris names row.kind number local n
+    → slice_get uris number ≡ Some row.uri
     → IsTypeIn names (name_of_row row) n
 recalled_type uris names row number local n same it here =
     let uri : it.uri ≡ row.uri = same_Some it.uri row.uri (sym it.there ∙ here) in
@@ -162,7 +166,8 @@ recalled_type uris names row number local n same it here =
     subst (λ (x : Name). IsTypeIn names x n) name it.is
 
 -- one more name is kept
-pub kept_recalls : (uris : List (List ℕ)) (names : List Name) (old new : Index) (row : Row) (number : ℕ) (local : List ℕ) (known : ℕ) → local ≡ row.local → Recalls old uris names → slice_get uris number ≡ Some row.uri
+pub kept_recalls : (uris : List (List ℕ)) (names : List Name) (old new : Index) (row : Row) (number : ℕ) (local : List ℕ) (known : ℕ) → local ≡ row.local → Recalls old uris names
+    → slice_get uris number ≡ Some row.uri
     → IsTypeIn names (name_of_row row) known
     → ((k : Kind) (u : ℕ) (text : List ℕ) (n : ℕ) → Knows new k u text n → Knows old k u text n ⊎ ((k ≡ row.kind) × (u ≡ number) × (text ≡ local) × (n ≡ known)))
     → Recalls new uris names
@@ -187,7 +192,8 @@ recalls_still index uris more names all keeps names_keep recalls kind number loc
       is = (it.is.0, it.is.1, names_keep (record { kind = kind; uri = it.uri; local = local }) (n - 3) it.is.2);
     }
 
-pub names_keep : (old new : NodeWriter) (limits later : Limits) (cells now : Cells) (more : List Step) → writing.Stands old limits cells → writing.Stands new later now → now.steps ≡ cells.steps ++ more → Keeps (names_in old) (names_in new)
+pub names_keep : (old new : NodeWriter) (limits later : Limits) (cells now : Cells) (more : List Step) → writing.Stands old limits cells → writing.Stands new later now
+    → now.steps ≡ cells.steps ++ more → Keeps (names_in old) (names_in new)
 names_keep old new limits later cells now more s t is x k h =
     let all : names_in new ≡ names_from (names_in old) (rows_given more) =
     t.names
@@ -198,15 +204,18 @@ names_keep old new limits later cells now more s t is x k h =
     subst (λ (names : List Name). slice_get names k ≡ Some x) (sym all) (names_kept (names_in old) (rows_given more) x k h)
 
 -- the number at a place is that of the URI of the row there
-pub number_here : (uris : List (List ℕ)) (rows : List Row) (numbers : List ℕ) (k d : ℕ) (x : Row) → AreNumbered uris rows numbers → k < length rows → slice_get rows k ≡ Some x → slice_get uris (get_or numbers k d) ≡ Some x.uri
+pub number_here : (uris : List (List ℕ)) (rows : List Row) (numbers : List ℕ) (k d : ℕ) (x : Row) → AreNumbered uris rows numbers → k < length rows → slice_get rows k ≡ Some x
+    → slice_get uris (get_or numbers k d) ≡ Some x.uri
 number_here uris rows numbers k d x are within here =
     let same : get_or rows k x ≡ x = get_or_from_slice_get rows k x x here in
     numbered_at uris rows numbers k x d are within ∙ ap (λ (r : Row). Some r.uri) same
 
-pub node_numbered : (uris : List (List ℕ)) (events rest : List Event) (row : Row) (attributes : List Row) (declarations : List Binding) (numbers : List ℕ) (line : ℕ) → events ≡ Node row attributes declarations numbers line ∷ rest
+pub node_numbered : (uris : List (List ℕ)) (events rest : List Event) (row : Row) (attributes : List Row) (declarations : List Binding) (numbers : List ℕ) (line : ℕ)
+    → events ≡ Node row attributes declarations numbers line ∷ rest
     → is_element row.kind ≡ true → IsNumbered uris events → AreNumbered uris (row ∷ attributes) numbers
 node_numbered uris events rest row attributes declarations numbers line e is numbered = subst (IsNumbered uris) e numbered is
 
-pub ok_known : {E : Type 0} (names : List Name) (rows : List Row) (answer : Result (List (Option ℕ)) E) → IfOk answer (λ found. AreFound names rows found) → IfOk answer (λ found. AreKnown 0 names rows found)
+pub ok_known : {E : Type 0} (names : List Name) (rows : List Row) (answer : Result (List (Option ℕ)) E) → IfOk answer (λ found. AreFound names rows found)
+    → IfOk answer (λ found. AreKnown 0 names rows found)
 ok_known names rows (Ok found) h = all_known names rows found h
 ok_known names rows (Err e) h = tt

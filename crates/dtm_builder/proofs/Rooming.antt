@@ -1,5 +1,6 @@
 -- Flawless lines stay within the limits. The lines before are given with the latest first.
-use Rattle.std.proofs.Common.{◌≡◌, ℕ, ◌+◌, ◌==◌, Bool, true, false, cond, not, ◌&&◌, List, [], ◌∷◌, ◌++◌, length, Option, Some, None, refl, ap, ap₂, sym, ◌∙◌, arith, inl, inr, append_assoc, append-nil, length-append}
+use Rattle.std.proofs.Common.{◌≡◌, ℕ, ◌+◌, ◌==◌, Bool, true, false, cond, not, ◌&&◌, List, [], ◌∷◌, ◌++◌, length, Option, Some, None, refl, ap, ap₂}
+use Rattle.std.proofs.Common.{sym, ◌∙◌, arith, inl, inr, append_assoc, append-nil, length-append}
 use Rattle.std.specs.Prelude.{is_some}
 use Rattle.std.specs.List.{sum_by}
 use Rattle.std.proofs.lemmas.Bool.{cases_Bool, false≢true}
@@ -18,7 +19,8 @@ use Rattle.pyx_events.specs.declared.event.Event.TheVariants as event
 use Rattle.pyx_events.specs.declared.pending_start.Attribute.{Attribute}
 use Rattle.pyx_events.specs.declared.pending_start.PendingStart.{PendingStart}
 use Rattle.pyx_events.specs.Before.{depth, with_attribute, pending_start, pending_text, is_declaration, bindings, row_count, value_bytes, uris_to}
-use Rattle.pyx_events.specs.Nodes.{element_row, declarations, attribute_row, attribute_rows, start_node, numbers_of, plain_node, completed, text_row, instruction_row, comment_row, text_node, ended_text, line_events, events_to, event_rows, node_rows}
+use Rattle.pyx_events.specs.Nodes.{element_row, declarations, attribute_row, attribute_rows, start_node, numbers_of, plain_node, completed, text_row}
+use Rattle.pyx_events.specs.Nodes.{instruction_row, comment_row, text_node, ended_text, line_events, events_to, event_rows, node_rows}
 use Rattle.pyx_events.specs.Flaw.{line_flaw}
 use Rattle.pyx_events.specs.Steps.{step_of, steps_of_events}
 use Rattle.dtm_builder.specs.Lines.{AreFlawless}
@@ -45,7 +47,8 @@ module _ (w : Row → ℕ) where
   pub measure_join : (xs ys : List Event) → measure (xs ++ ys) ≡ measure xs + measure ys
   measure_join xs ys = ap (sum_by w) (rows_join xs ys) ∙ sum_by-append w (node_rows xs) (node_rows ys)
 
-  measure_node : (row : Row) (attributes : List Row) (declarations : List Binding) (uris : List ℕ) (line : ℕ) → measure (event.Node row attributes declarations uris line ∷ []) ≡ w row + sum_by w attributes
+  measure_node : (row : Row) (attributes : List Row) (declarations : List Binding) (uris : List ℕ) (line : ℕ)
+      → measure (event.Node row attributes declarations uris line ∷ []) ≡ w row + sum_by w attributes
   measure_node row attributes declarations uris line = ap (sum_by w) (append-nil (row ∷ attributes)) ∙ sum_by-cons w row attributes
 
 -- what is pending, in the same measure: an element's own, and its attributes that aren't declarations
@@ -57,7 +60,8 @@ module _ (size : List ℕ → ℕ) where
   start_size own None = 0
   start_size own (Some it) = own + sum_by attribute_size it.attributes
 
-  attributes_size : (w : Row → ℕ) (bound : List Binding) (deep : ℕ) (lines : List Attribute) → ((it : Attribute) → w (attribute_row bound deep it) ≡ size it.value) → sum_by w (attribute_rows bound deep lines) ≡ sum_by attribute_size lines
+  attributes_size : (w : Row → ℕ) (bound : List Binding) (deep : ℕ) (lines : List Attribute) → ((it : Attribute) → w (attribute_row bound deep it) ≡ size it.value)
+      → sum_by w (attribute_rows bound deep lines) ≡ sum_by attribute_size lines
   attributes_size w bound deep [] h = refl
   attributes_size w bound deep (it ∷ lines) h =
       let rest = attributes_size w bound deep lines h in
@@ -69,11 +73,13 @@ module _ (size : List ℕ → ℕ) where
             here ∙ rest ∙ sym (none ∙ omega arith)
         | inr e ↦
             let one : sum_by attribute_size (it ∷ lines) ≡ size it.value + sum_by attribute_size lines = more ∙ ap (λ b. cond b 0 (size it.value) + sum_by attribute_size lines) e in
-            let here : sum_by w (attribute_rows bound deep (it ∷ lines)) ≡ w (attribute_row bound deep it) + sum_by w (attribute_rows bound deep lines) = rw e (sum_by-cons w (attribute_row bound deep it) (attribute_rows bound deep lines)) in
+            let here : sum_by w (attribute_rows bound deep (it ∷ lines)) ≡ w (attribute_row bound deep it) + sum_by w (attribute_rows bound deep lines) =
+            rw e (sum_by-cons w (attribute_row bound deep it) (attribute_rows bound deep lines)) in
             here ∙ ap₂ (λ m n. m + n) (h it) rest ∙ sym one
       ]
 
-  with_attribute_size : (own : ℕ) (name value : List ℕ) (it : Option PendingStart) → is_some it ≡ true → start_size own (with_attribute name value it) ≡ start_size own it + cond (is_declaration name) 0 (size value)
+  with_attribute_size : (own : ℕ) (name value : List ℕ) (it : Option PendingStart) → is_some it ≡ true
+      → start_size own (with_attribute name value it) ≡ start_size own it + cond (is_declaration name) 0 (size value)
   with_attribute_size own name value None h = absurd (false≢true h)
   with_attribute_size own name value (Some it) h = let last = sum_by_push attribute_size it.attributes (record { name = name; value = value }) in omega (arith, last)
 
@@ -91,11 +97,17 @@ value_size value = length value
 
 start_rows : (uris : List (List ℕ)) (bound : List Binding) (deep : ℕ) (it : Option PendingStart) → measure one_row (start_node uris bound deep it) ≡ start_size one_value 1 it
 start_rows uris bound deep None = refl
-start_rows uris bound deep (Some it) = measure_node one_row (element_row bound deep it.name) (attribute_rows bound (deep + 1) it.attributes) (declarations it.attributes) (numbers_of uris (element_row bound deep it.name ∷ attribute_rows bound (deep + 1) it.attributes)) it.line ∙ ap (λ n. 1 + n) (attributes_size one_value one_row bound (deep + 1) it.attributes (λ a. refl))
+start_rows uris bound deep (Some it) =
+    measure_node one_row (element_row bound deep it.name) (attribute_rows bound (deep + 1) it.attributes) (declarations it.attributes)
+    (numbers_of uris (element_row bound deep it.name ∷ attribute_rows bound (deep + 1) it.attributes)) it.line
+    ∙ ap (λ n. 1 + n) (attributes_size one_value one_row bound (deep + 1) it.attributes (λ a. refl))
 
 start_values : (uris : List (List ℕ)) (bound : List Binding) (deep : ℕ) (it : Option PendingStart) → measure row_value (start_node uris bound deep it) ≡ start_size value_size 0 it
 start_values uris bound deep None = refl
-start_values uris bound deep (Some it) = measure_node row_value (element_row bound deep it.name) (attribute_rows bound (deep + 1) it.attributes) (declarations it.attributes) (numbers_of uris (element_row bound deep it.name ∷ attribute_rows bound (deep + 1) it.attributes)) it.line ∙ ap (λ n. 0 + n) (attributes_size value_size row_value bound (deep + 1) it.attributes (λ a. refl))
+start_values uris bound deep (Some it) =
+    measure_node row_value (element_row bound deep it.name) (attribute_rows bound (deep + 1) it.attributes) (declarations it.attributes)
+    (numbers_of uris (element_row bound deep it.name ∷ attribute_rows bound (deep + 1) it.attributes)) it.line
+    ∙ ap (λ n. 0 + n) (attributes_size value_size row_value bound (deep + 1) it.attributes (λ a. refl))
 
 abbrev pub text_rows : List ℕ → ℕ
 text_rows text = cond (length text == 0) 0 1
@@ -194,7 +206,16 @@ values_counted limits (End name ∷ before) f =
     let all = measure_join row_value (events_to before) (line_events before (End name)) in
     let now = measure_join row_value (completed before (pending_start before)) (ended_text before ++ event.Shut ∷ []) in
     let end = measure_join row_value (ended_text before) (event.Shut ∷ []) in
-    omega (arith, h, all, now, end, start_values (uris_to before) (bindings 0 before) (depth before) (pending_start before), text_node_values (depth before + 1) (length before + 1) (pending_text before))
+    omega (
+      arith,
+      h,
+      all,
+      now,
+      end,
+      start_values (uris_to before) (bindings 0 before) (depth before) (pending_start before),
+      text_node_values (depth before + 1) (length before + 1)
+          (pending_text before),
+    )
 values_counted limits (Attr name value ∷ before) f =
     let h = values_counted limits before f.1 in
     let all = measure_join row_value (events_to before) [] in
@@ -211,14 +232,32 @@ values_counted limits (Instruction target value ∷ before) f =
     let all = measure_join row_value (events_to before) (line_events before (Instruction target value)) in
     let now = measure_join row_value (completed before (pending_start before)) (ended_text before ++ own) in
     let end = measure_join row_value (ended_text before) own in
-    omega (arith, h, all, now, end, start_values (uris_to before) (bindings 0 before) (depth before) (pending_start before), text_node_values (depth before + 1) (length before + 1) (pending_text before))
+    omega (
+      arith,
+      h,
+      all,
+      now,
+      end,
+      start_values (uris_to before) (bindings 0 before) (depth before) (pending_start before),
+      text_node_values (depth before + 1) (length before + 1)
+          (pending_text before),
+    )
 values_counted limits (Comment text ∷ before) f =
     let h = values_counted limits before f.1 in
     let own = plain_node (comment_row (depth before + 1) text) (length before + 1) ∷ [] in
     let all = measure_join row_value (events_to before) (line_events before (Comment text)) in
     let now = measure_join row_value (completed before (pending_start before)) (ended_text before ++ own) in
     let end = measure_join row_value (ended_text before) own in
-    omega (arith, h, all, now, end, start_values (uris_to before) (bindings 0 before) (depth before) (pending_start before), text_node_values (depth before + 1) (length before + 1) (pending_text before))
+    omega (
+      arith,
+      h,
+      all,
+      now,
+      end,
+      start_values (uris_to before) (bindings 0 before) (depth before) (pending_start before),
+      text_node_values (depth before + 1) (length before + 1)
+          (pending_text before),
+    )
 values_counted limits (Passed ∷ before) f =
     let h = values_counted limits before f.1 in
     let all = measure_join row_value (events_to before) [] in

@@ -1,5 +1,6 @@
 -- The rows of readable lines have names, URIs and values that a line can give.
-use Rattle.std.proofs.Common.{◌≡◌, ℕ, zero, suc, ◌+◌, ◌<◌, ◌==◌, Bool, true, false, ◌&&◌, ◌||◌, not, cond, List, [], ◌∷◌, ◌++◌, length, get_or, take, drop, Option, Some, None, codes, refl, ap, sym, ◌∙◌, arith, inl, inr}
+use Rattle.std.proofs.Common.{◌≡◌, ℕ, zero, suc, ◌+◌, ◌<◌, ◌==◌, Bool, true, false, ◌&&◌, ◌||◌, not, cond, List, [], ◌∷◌, ◌++◌, length, get_or, take}
+use Rattle.std.proofs.Common.{drop, Option, Some, None, codes, refl, ap, sym, ◌∙◌, arith, inl, inr}
 use Rattle.std.specs.List.{list_any, list_all}
 use Rattle.std.specs.Prelude.{unwrap_or, is_some, nat_lt, slice_index}
 use Rattle.std.specs.Option.{option_to_list}
@@ -7,7 +8,8 @@ use Rattle.std.specs.Str.{is_utf8, bytes_eq}
 use Rattle.std.proofs.lemmas.Bool.{cases_Bool, and_parts, and_from, false≢true}
 use Rattle.std.proofs.lemmas.Bool.Decides.{nat_tests}
 use Rattle.std.proofs.lemmas.List.Quantifiers.{position-Some}
-use Rattle.std.proofs.lemmas.Str.{IsUtf8-append, IsUtf8-nil, IsUtf8-take, IsUtf8-drop, IsCharBoundary-before_ascii, IsCharBoundary-after_ascii, IsUtf8-from_ascii, IsUtf8-from_is_utf8, is_utf8-from_IsUtf8}
+use Rattle.std.proofs.lemmas.Str.{IsUtf8-append, IsUtf8-nil, IsUtf8-take, IsUtf8-drop, IsCharBoundary-before_ascii, IsCharBoundary-after_ascii}
+use Rattle.std.proofs.lemmas.Str.{IsUtf8-from_ascii, IsUtf8-from_is_utf8, is_utf8-from_IsUtf8}
 use Rattle.name_grammar.specs.Names.{is_ncname, is_name, colon_in, prefix_of, local_of}
 use Rattle.doc_model.specs.Legible.{is_empty, is_part, is_legible, all_legible}
 use Rattle.xml_names.specs.declared.scopes.Binding.{Binding}
@@ -156,7 +158,8 @@ plain_legible bound deep it h t d b = elim (cases_Bool (length (prefix_of it.nam
       ap (λ x. is_empty (attribute_uri bound (prefix_of it.name)) && x) other ∙ and_false _
   | inr e ↦
       let there : is_some (resolve bound (prefix_of it.name)) ≡ true = is_bound (length (prefix_of it.name) == 0) (is_some (resolve bound (prefix_of it.name))) e b in
-      let full : is_empty (attribute_uri bound (prefix_of it.name)) ≡ false = ap (λ x. is_empty (cond x [] (uri_of bound (prefix_of it.name)))) e ∙ bound_uri (uri_in (prefix_of it.name) bound) there in
+      let full : is_empty (attribute_uri bound (prefix_of it.name)) ≡ false =
+      ap (λ x. is_empty (cond x [] (uri_of bound (prefix_of it.name)))) e ∙ bound_uri (uri_in (prefix_of it.name) bound) there in
       ap (λ x. x && bytes_eq (local_of it.name) (codes "xmlns")) full
 ]
 
@@ -182,12 +185,14 @@ attributes_legible bound deep (it ∷ lines) h t b =
     ]
 
 -- the node of a start has what lines can give
-pub start_legible : (bound : List Binding) (deep : ℕ) (it : PendingStart) → is_name it.name ≡ true → is_utf8 it.name ≡ true → AreTexts it.attributes → AreText bound → list_any (attribute_unbound bound) it.attributes ≡ false
+pub start_legible : (bound : List Binding) (deep : ℕ) (it : PendingStart) → is_name it.name ≡ true → is_utf8 it.name ≡ true → AreTexts it.attributes → AreText bound
+    → list_any (attribute_unbound bound) it.attributes ≡ false
     → all_legible (element_row bound deep it.name ∷ attribute_rows bound (deep + 1) it.attributes) ≡ true
 start_legible bound deep it is u h t b = and_from _ _ (element_legible bound deep it.name is u t) (attributes_legible bound (deep + 1) it.attributes h t b)
 
 -- what readable lines bind
-made_text : (name value : List ℕ) (bound : List Binding) → is_utf8 value ≡ true → AreText bound → (prefix : Option (List ℕ)) → declared_prefix name ≡ prefix → AreText (option_to_list (binding_of name value) ++ bound)
+made_text : (name value : List ℕ) (bound : List Binding) → is_utf8 value ≡ true → AreText bound → (prefix : Option (List ℕ)) → declared_prefix name ≡ prefix
+    → AreText (option_to_list (binding_of name value) ++ bound)
 made_text name value bound u t None is = rw is t
 made_text name value bound u t (Some prefix) is = elim (cases_Bool (is_fixed prefix)) [
   | inl e ↦ rw (is, e) t
@@ -233,7 +238,8 @@ more_texts : (lines : List Attribute) (it : Attribute) → AreTexts lines → Is
 more_texts [] it h t = (t, tt)
 more_texts (one ∷ lines) it h t = (h.0, more_texts lines it h.1 t)
 
-with_attribute_readable : (name value : List ℕ) (start : Option PendingStart) → IsReadableStart start → IsText (record { name = name; value = value }) → IsReadableStart (with_attribute name value start)
+with_attribute_readable : (name value : List ℕ) (start : Option PendingStart) → IsReadableStart start → IsText (record { name = name; value = value })
+    → IsReadableStart (with_attribute name value start)
 with_attribute_readable name value None h t = tt
 with_attribute_readable name value (Some start) h t = (h.0, h.1, more_texts start.attributes (record { name = name; value = value }) h.2 t)
 

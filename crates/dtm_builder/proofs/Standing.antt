@@ -43,7 +43,8 @@ checker_room count limits checker before s few going =
     (before, subst (λ (l : Limits). taken.HasTaken l checker.progress before) (sym s.taken.nested.limits) s.taken, few)
 
 -- the steps of a line that has no flaw may come
-pub line_follows : (builder : Builder) (limits : Limits) (cells : Cells) (before : List Line) (line : Line) (checker : Checking) (events : List Event) → Stands builder limits cells before → IsReadable line → line_flaw limits false before line ≡ None
+pub line_follows : (builder : Builder) (limits : Limits) (cells : Cells) (before : List Line) (line : Line) (checker : Checking) (events : List Event)
+    → Stands builder limits cells before → IsReadable line → line_flaw limits false before line ≡ None
     → checking.Stands limits checker (line ∷ before) → events ≡ line_events before line → CanFollow limits cells.steps (steps_of_events events)
 line_follows builder limits cells before line checker events s readable h taken e =
     let it = built limits before s.flawless s.readable in
@@ -89,22 +90,28 @@ at_small n line (Some it) later flaw h rest e = omega (arith, h, some_line (reco
 none_flaw : (n : ℕ) (flaw : Flaw) → None ≡ Some flaw → flaw.line ≤ n
 none_flaw n flaw h = absurd (cc)
 
-order_small : (limits : Limits) (before : List Line) (start : Option PendingStart) (own : Option FlawKind) (flaw : Flaw) → start_line start ≤ length before → in_order limits false before start own ≡ Some flaw → flaw.line ≤ length before + 1
+order_small : (limits : Limits) (before : List Line) (start : Option PendingStart) (own : Option FlawKind) (flaw : Flaw) → start_line start ≤ length before
+    → in_order limits false before start own ≡ Some flaw → flaw.line ≤ length before + 1
 order_small limits before start own flaw h e =
     at_small (length before + 1) (start_line start) (completed_flaw limits false before start) (at_line (length before + 1) own None) flaw (omega (arith, h))
     (at_small (length before + 1) (length before + 1) own None flaw (omega arith) (none_flaw (length before + 1) flaw)) e
 
 -- the table may end for a reason that is judged
-pub line_ends : (limits : Limits) (before : List Line) (line : Line) (steps : List Step) (error : BuildError) → length before < 4294967295 → (document_of steps).ended ≡ None → IsFlawOf (line_flaw limits false before line) error → CanEnd steps error
-line_ends limits before line steps (Refused flaw) few g h = record { going = g; may = let less = order_small limits before (completed_start before line) _ flaw (completed_small before line) h in omega (arith, less, few) }
+pub line_ends : (limits : Limits) (before : List Line) (line : Line) (steps : List Step) (error : BuildError) → length before < 4294967295 → (document_of steps).ended ≡ None
+    → IsFlawOf (line_flaw limits false before line) error → CanEnd steps error
+line_ends limits before line steps (Refused flaw) few g h =
+    record { going = g; may = let less = order_small limits before (completed_start before line) _ flaw (completed_small before line) h in omega (arith, less, few) }
 line_ends limits before line steps Memory few g h = record { going = g; may = tt }
 
-pub end_ends : (limits : Limits) (before : List Line) (steps : List Step) (error : BuildError) → length before < 4294967296 → (document_of steps).ended ≡ None → IsFlawOf (end_flaw limits false before) error → CanEnd steps error
-end_ends limits before steps (Refused flaw) few g h = record { going = g; may = let less = order_small limits before (pending_start before) (own_end_flaw before) flaw (start_small before) h in omega (arith, less, few) }
+pub end_ends : (limits : Limits) (before : List Line) (steps : List Step) (error : BuildError) → length before < 4294967296 → (document_of steps).ended ≡ None
+    → IsFlawOf (end_flaw limits false before) error → CanEnd steps error
+end_ends limits before steps (Refused flaw) few g h =
+    record { going = g; may = let less = order_small limits before (pending_start before) (own_end_flaw before) flaw (start_small before) h in omega (arith, less, few) }
 end_ends limits before steps Memory few g h = record { going = g; may = tt }
 
 -- the root alone is open where no element is and no start is pending
-pub root_open : (builder : Builder) (limits : Limits) (cells : Cells) (before : List Line) → Stands builder limits cells before → depth before ≡ 0 → pending_start before ≡ None → length (document_of cells.steps).opened ≡ 1
+pub root_open : (builder : Builder) (limits : Limits) (cells : Cells) (before : List Line) → Stands builder limits cells before → depth before ≡ 0 → pending_start before ≡ None
+    → length (document_of cells.steps).opened ≡ 1
 root_open builder limits cells before s shut none =
     let it = built limits before s.flawless s.readable in
     let pending : pending_count (pending_start before) ≡ 0 = ap pending_count none in

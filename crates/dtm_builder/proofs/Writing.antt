@@ -23,7 +23,8 @@ less_room limits few many l h = record {
   text = omega (arith, l.values, l.name_text, l.prefix_text, h.text);
 }
 
-pub node_room : (limits : Limits) (steps left : List Step) (row : Row) (attributes : List Row) → CanFollow limits steps (step.Node row attributes ∷ left) → HasRoom limits (rows_of steps ++ row ∷ attributes)
+pub node_room : (limits : Limits) (steps left : List Step) (row : Row) (attributes : List Row) → CanFollow limits steps (step.Node row attributes ∷ left)
+    → HasRoom limits (rows_of steps ++ row ∷ attributes)
 node_room limits steps left row attributes f =
     let all : rows_of (steps ++ step.Node row attributes ∷ left) ≡ (rows_of steps ++ row ∷ attributes) ++ rows_given left =
     rows-append steps (step.Node row attributes ∷ left) ∙ sym (append_assoc (rows_of steps) (row ∷ attributes) (rows_given left)) in
@@ -48,7 +49,8 @@ first_follows limits steps left x f =
     }
 
 -- the event at a place is the first of those that are left
-pub at_event : (limits : Limits) (steps : List Step) (events : List Event) (k : ℕ) (x : Event) → k < length events → x ≡ get_or events k x → CanFollow limits steps (steps_of_events (drop k events)) → CanFollow limits steps (step_of x ∷ steps_of_events (drop (k + 1) events))
+pub at_event : (limits : Limits) (steps : List Step) (events : List Event) (k : ℕ) (x : Event) → k < length events → x ≡ get_or events k x
+    → CanFollow limits steps (steps_of_events (drop k events)) → CanFollow limits steps (step_of x ∷ steps_of_events (drop (k + 1) events))
 at_event limits steps events k x within is f =
     subst (λ y. CanFollow limits steps (step_of y ∷ steps_of_events (drop (k + 1) events))) (sym is)
     (subst (λ all. CanFollow limits steps all) (at_drop_more steps_of_events events k x within) f)
@@ -57,7 +59,8 @@ steps_join : (xs ys : List Event) → steps_of_events (xs ++ ys) ≡ steps_of_ev
 steps_join [] ys = refl
 steps_join (x ∷ xs) ys = ap (λ all. step_of x ∷ all) (steps_join xs ys)
 
-pub steps_more : (events : List Event) (k : ℕ) (x : Event) (old now new : List Step) → k < length events → x ≡ get_or events k x → now ≡ old ++ steps_of_events (take k events) → new ≡ now ++ step_of x ∷ [] → new ≡ old ++ steps_of_events (take (k + 1) events)
+pub steps_more : (events : List Event) (k : ℕ) (x : Event) (old now new : List Step) → k < length events → x ≡ get_or events k x → now ≡ old ++ steps_of_events (take k events)
+    → new ≡ now ++ step_of x ∷ [] → new ≡ old ++ steps_of_events (take (k + 1) events)
 steps_more events k x old now new within is before step =
     let one : steps_of_events (take (k + 1) events) ≡ steps_of_events (take k events) ++ step_of x ∷ [] =
     ap steps_of_events (take_more events k x within) ∙ steps_join (take k events) (get_or events k x ∷ []) ∙ ap (λ y. steps_of_events (take k events) ++ step_of y ∷ []) (sym is) in
@@ -67,7 +70,8 @@ event_going : (steps : List Step) (x : Event) → (document_of steps).ended ≡ 
 event_going steps (event.Node row attributes declarations uris line) h = subst (λ d. Document.ended d ≡ None) (sym (document_of-push steps (step.Node row attributes))) h
 event_going steps event.Shut h = subst (λ d. Document.ended d ≡ None) (sym (document_of-push steps step.Shut)) h
 
-pub event_follows : (limits now_limits : Limits) (steps now : List Step) (left : List Step) (x : Event) → now_limits ≡ limits → now ≡ steps ++ step_of x ∷ [] → CanFollow limits steps (step_of x ∷ left) → CanFollow now_limits now left
+pub event_follows : (limits now_limits : Limits) (steps now : List Step) (left : List Step) (x : Event) → now_limits ≡ limits → now ≡ steps ++ step_of x ∷ []
+    → CanFollow limits steps (step_of x ∷ left) → CanFollow now_limits now left
 event_follows limits now_limits steps now left x same is f =
     subst (λ l. CanFollow l now left) (sym same) (subst (λ all. CanFollow limits all left) (sym is) (follows_still limits steps left (step_of x) (event_going steps x f.going) f))
 

@@ -1,5 +1,6 @@
 -- From a row up to one around it, by parents.
-use Rattle.std.proofs.Common.{◌≡◌, ℕ, suc, ◌+◌, ◌-◌, ◌<◌, ◌≤◌, true, false, cond, List, [], ◌∷◌, ◌++◌, length, Option, None, Some, IsSome, refl, ap, sym, ◌∙◌, arith, append-nil, append_assoc, inl, inr}
+use Rattle.std.proofs.Common.{◌≡◌, ℕ, suc, ◌+◌, ◌-◌, ◌<◌, ◌≤◌, true, false, cond, List, [], ◌∷◌, ◌++◌, length, Option, None, Some, IsSome, refl, ap}
+use Rattle.std.proofs.Common.{sym, ◌∙◌, arith, append-nil, append_assoc, inl, inr}
 use Rattle.std.proofs.lemmas.Bool.{cases_lt, cases_eq, false≢true}
 use Rattle.doc_model.specs.declared.row.Row.{Row}
 use Rattle.doc_model.specs.declared.step.Step.{Step}
@@ -60,7 +61,8 @@ pub parent_later : (p q : List Step) (k : ℕ) → Grows p q → IsJoined p k �
 parent_later p q k g j = let w = prefix_rows p q g in ap (λ rows. parent_of rows k) w.1 ∙ parent_grows (rows_of p) w.0 k j
 
 -- what ends before row k: the row that was open, and those around it below the parent of k
-pub ends_before : (p q : List Step) (at up k : ℕ) → Grows p q → IsLawful q → IsJoined p at → IsJoined p k → parent_of (rows_of q) k ≡ Some up → depth_at (rows_of p) at - depth_at (rows_of p) up ≡ suc (depth_at (rows_of q) at) - depth_at (rows_of q) k
+pub ends_before : (p q : List Step) (at up k : ℕ) → Grows p q → IsLawful q → IsJoined p at → IsJoined p k → parent_of (rows_of q) k ≡ Some up
+    → depth_at (rows_of p) at - depth_at (rows_of p) up ≡ suc (depth_at (rows_of q) at) - depth_at (rows_of q) k
 ends_before p q at up k g l ja jk h =
     let u = parent_depth (rows_of q) (lawful_document q l) k up (joined_grows p q k g jk) h in
     omega (arith, u.1, depth_later p q at g ja, depth_later p q up g (omega (arith, u.0, jk)))
@@ -69,7 +71,8 @@ ends_before p q at up k g l ja jk h =
 pub behind_itself : (rows : List Row) (k : ℕ) → is_parent (row_at rows k).kind ≡ true → depth_at rows k ≡ depth_behind (row_at rows k)
 behind_itself rows k e = sym (ap (λ b. cond b (depth_at rows k) (depth_at rows k - 1)) e)
 
-pub behind_parent : (p : List Step) (k up : ℕ) → IsLawful p → IsJoined p k → is_parent (row_at (rows_of p) k).kind ≡ false → parent_of (rows_of p) k ≡ Some up → depth_at (rows_of p) up ≡ depth_behind (row_at (rows_of p) k)
+pub behind_parent : (p : List Step) (k up : ℕ) → IsLawful p → IsJoined p k → is_parent (row_at (rows_of p) k).kind ≡ false → parent_of (rows_of p) k ≡ Some up
+    → depth_at (rows_of p) up ≡ depth_behind (row_at (rows_of p) k)
 behind_parent p k up l j e h =
     let u = parent_depth (rows_of p) (lawful_document p l) k up j h in
     let d : depth_at (rows_of p) up ≡ depth_at (rows_of p) k - 1 = omega (arith, u.1) in
@@ -134,7 +137,8 @@ climbed_later p q at now to old made g c =
 pub climbed_some : (steps : List Step) (at now to : ℕ) (old made : List ResultEvent) → IsLawful steps → Climbed steps at now to old made → (now ≡ to → ⊥) → parent_of (rows_of steps) now ≡ None → ⊥
 climbed_some steps at now to old made l c ne h = around_none (rows_of steps) (lawful_document steps l) now to c.joined c.around ne h
 
-pub climbed_on : (steps : List Step) (at now to up : ℕ) (old made more : List ResultEvent) → IsLawful steps → Climbed steps at now to old made → (now ≡ to → ⊥) → parent_of (rows_of steps) now ≡ Some up → more ≡ made ++ event.End ∷ []
+pub climbed_on : (steps : List Step) (at now to up : ℕ) (old made more : List ResultEvent) → IsLawful steps → Climbed steps at now to old made → (now ≡ to → ⊥)
+    → parent_of (rows_of steps) now ≡ Some up → more ≡ made ++ event.End ∷ []
     → Climbed steps at up to old more
 climbed_on steps at now to up old made more l c ne h e =
     let doc = lawful_document steps l in
@@ -152,5 +156,6 @@ climbed_on steps at now to up old made more l c ne h e =
           ∙ sym (ap (λ n. old ++ ends n) s);
     }
 
-pub climbed_end : (steps : List Step) (at now to : ℕ) (old made : List ResultEvent) → now ≡ to → Climbed steps at now to old made → made ≡ old ++ ends (depth_at (rows_of steps) at - depth_at (rows_of steps) to)
+pub climbed_end : (steps : List Step) (at now to : ℕ) (old made : List ResultEvent) → now ≡ to → Climbed steps at now to old made
+    → made ≡ old ++ ends (depth_at (rows_of steps) at - depth_at (rows_of steps) to)
 climbed_end steps at now to old made e c = c.events ∙ ap (λ n. old ++ ends (depth_at (rows_of steps) at - depth_at (rows_of steps) n)) e

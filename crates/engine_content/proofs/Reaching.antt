@@ -37,7 +37,8 @@ pub record Reached (rules : List StripRule) (steps : List Step) (n at k end : �
   pub innermost : IsInnermost (rows_of steps) at (k - 1)
   pub rest : made ++ pass rules (rows_of steps) (depth_at (rows_of steps) n) k (end - k) (depth_at (rows_of steps) at) ≡ front ++ whole_pass rules (rows_of steps) n end
 
-pub reached_first : (rules : List StripRule) (steps : List Step) (n k end : ℕ) (front : List ResultEvent) → IsJoined steps n → k ≡ n + 1 → is_open steps n ≡ false → end ≡ extent_of (rows_of steps) n → Reached rules steps n n k end front front
+pub reached_first : (rules : List StripRule) (steps : List Step) (n k end : ℕ) (front : List ResultEvent) → IsJoined steps n → k ≡ n + 1 → is_open steps n ≡ false
+    → end ≡ extent_of (rows_of steps) n → Reached rules steps n n k end front front
 reached_first rules steps n k end front j e o h =
     let s : k ≡ suc n = omega arith in
     let b : n ≡ k - 1 = omega arith in
@@ -64,7 +65,8 @@ pass_later rules p q n at k count g jn ja l =
     ∙ ap (λ rows. pass rules rows (depth_at (rows_of p) n) k count (depth_at (rows_of p) at)) w.1
     ∙ pass_stays rules (rows_of p) w.0 (depth_at (rows_of p) n) k count (depth_at (rows_of p) at) l
 
-pub reached_later : (rules : List StripRule) (p q : List Step) (n at k end : ℕ) (front made : List ResultEvent) → Grows p q → IsLawful q → Reached rules p n at k end front made → Reached rules q n at k end front made
+pub reached_later : (rules : List StripRule) (p q : List Step) (n at k end : ℕ) (front made : List ResultEvent) → Grows p q → IsLawful q → Reached rules p n at k end front made
+    → Reached rules q n at k end front made
 reached_later rules p q n at k end front made g l r =
     let s = shut_grows p q n g l r.joined r.shut in
     let le = extent_le (rows_of p) n r.joined in
@@ -114,8 +116,10 @@ reached_on rules steps n at k end next front made more r l h d i =
       rest =
           ap (λ xs. xs ++ ahead) h
           ∙ regrouped made (ends (suc (depth_at (rows_of steps) at) - depth_at (rows_of steps) k)) (beginning_shown rules (rows_of steps) k) ahead
-          ∙ ap (λ e. made ++ ((ends (suc (depth_at (rows_of steps) at) - depth_at (rows_of steps) k) ++ beginning_shown rules (rows_of steps) k) ++ pass rules (rows_of steps) (depth_at (rows_of steps) n) (k + 1) (end - (k + 1)) e)) d
-          ∙ ap (λ j. made ++ ((ends (suc (depth_at (rows_of steps) at) - depth_at (rows_of steps) k) ++ beginning_shown rules (rows_of steps) k) ++ pass rules (rows_of steps) (depth_at (rows_of steps) n) j (end - (k + 1)) (depth_behind (row_at (rows_of steps) k)))) (sym s)
+          ∙ ap (λ e. made ++ ((ends (suc (depth_at (rows_of steps) at) - depth_at (rows_of steps) k) ++ beginning_shown rules (rows_of steps) k)
+          ++ pass rules (rows_of steps) (depth_at (rows_of steps) n) (k + 1) (end - (k + 1)) e)) d
+          ∙ ap (λ j. made ++ ((ends (suc (depth_at (rows_of steps) at) - depth_at (rows_of steps) k) ++ beginning_shown rules (rows_of steps) k)
+          ++ pass rules (rows_of steps) (depth_at (rows_of steps) n) j (end - (k + 1)) (depth_behind (row_at (rows_of steps) k)))) (sym s)
           ∙ ap (λ j. made ++ pass rules (rows_of steps) (depth_at (rows_of steps) n) k j (depth_at (rows_of steps) at)) (sym c)
           ∙ r.rest;
     }
@@ -137,7 +141,8 @@ reached_end rules steps n at k end front made r l =
     ap (λ c. made ++ pass rules (rows_of steps) (depth_at (rows_of steps) n) k c (depth_at (rows_of steps) at)) (sym z) ∙ r.rest
 
 -- the copy of a row that is shut, by its parts
-pub copy_whole : (rules : List StripRule) (q : List Step) (n end : ℕ) (row : Row) (kind : Kind) (start begun inner made : List ResultEvent) → IsLawful q → IsJoined q n → start ≡ [] → begun ≡ start ++ beginning row → row ≡ row_at (rows_of q) n
+pub copy_whole : (rules : List StripRule) (q : List Step) (n end : ℕ) (row : Row) (kind : Kind) (start begun inner made : List ResultEvent) → IsLawful q → IsJoined q n → start ≡ []
+    → begun ≡ start ++ beginning row → row ≡ row_at (rows_of q) n
     → end ≡ extent_of (rows_of q) n → inner ≡ begun ++ whole_pass rules (rows_of q) n end → kind ≡ (row_at (rows_of q) n).kind → made ≡ inner ++ ending_as kind → made ≡ copy_in rules (rows_of q) n
 copy_whole rules q n end row kind start begun inner made l j none first same e rest k last =
     last ∙ ap (λ xs. xs ++ ending_as kind) (rest ∙ ap (λ xs. xs ++ whole_pass rules (rows_of q) n end) (first ∙ ap (λ xs. xs ++ beginning row) none ∙ ap beginning same))

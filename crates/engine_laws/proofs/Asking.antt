@@ -51,7 +51,8 @@ module _ (sheet : Sheet) (globals : List Value) (w v : World) (y : Continues w v
   namespace_stays c None = refl
   namespace_stays c (Some parts) = bind_stays _ _ _ _ (template_stays c parts) (λ uri. refl)
 
-  pub name_stays : (c : Place) (attribute : Bool) (name : List Part) (namespace : Option (List Part)) (scope : ℕ) → Stays (name_at W c attribute name namespace scope) (name_at V c attribute name namespace scope)
+  pub name_stays : (c : Place) (attribute : Bool) (name : List Part) (namespace : Option (List Part)) (scope : ℕ)
+      → Stays (name_at W c attribute name namespace scope) (name_at V c attribute name namespace scope)
   name_stays c attribute name namespace scope =
       bind_stays _ _ _ _ (template_stays c name) (λ text. bind_stays _ _ _ _ (namespace_stays c namespace) (λ uri. stays (judged (computed attribute text uri sheet.scopes scope))))
 

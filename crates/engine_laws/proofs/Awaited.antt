@@ -30,7 +30,8 @@ by_need steps (Some m) events = by_open steps m events (is_open steps m) refl
 -- a copy waits only for a row that is open
 copy_told : (rules : List StripRule) (steps : List Step) (n : ℕ) → IsThere rules steps n → Tells (IsOpen steps) Anything (with_faults (copy_of rules steps n))
 copy_told rules steps n t =
-    subst (λ b. Tells (IsOpen steps) Anything (with_faults (cond b (once_shut steps (copy_need (rows_of steps) n) (copy_in rules (rows_of steps) n)) (Open n)))) (sym (lt-ltb n (length (rows_of steps)) t.0))
+    subst (λ b. Tells (IsOpen steps) Anything (with_faults (cond b (once_shut steps (copy_need (rows_of steps) n) (copy_in rules (rows_of steps) n)) (Open n))))
+    (sym (lt-ltb n (length (rows_of steps)) t.0))
     (by_need steps (copy_need (rows_of steps) n) (copy_in rules (rows_of steps) n))
 
 module _ (sheet : Sheet) (order : List ℕ) (id : Option (List ℕ)) (steps : List Step) where
@@ -42,7 +43,8 @@ module _ (sheet : Sheet) (order : List ℕ) (id : Option (List ℕ)) (steps : Li
 
   pub waits_for_open : (budget m : ℕ) (s : State) → Read → meaning_of sheet order id steps budget ≡ Waits m s → is_open steps m ≡ true
   unfolding meaning_of
-  waits_for_open budget m s x e = subst (Leaves (IsOpen steps) Anything) e ((transforms_safe (IsThere (strip_rules_of sheet) steps) (IsOpen steps) sheet (sheet_world sheet id steps) (world_told x) order).runs (at_first budget))
+  waits_for_open budget m s x e =
+      subst (Leaves (IsOpen steps) Anything) e ((transforms_safe (IsThere (strip_rules_of sheet) steps) (IsOpen steps) sheet (sheet_world sheet id steps) (world_told x) order).runs (at_first budget))
 
   pub whole_waits_for_none : (budget m : ℕ) (s : State) → Read → IsComplete steps → meaning_of sheet order id steps budget ≡ Waits m s → ⊥
   whole_waits_for_none budget m s x w e = false≢true (sym (whole_is_shut steps m w) ∙ waits_for_open budget m s x e)

@@ -12,7 +12,9 @@ use Rattle.doc_model.specs.declared.step.Step.{Step}
 use Rattle.fault_kinds.specs.declared.fault.FaultKind.TheVariants.{TooDeep, Terminated}
 use Rattle.sheet_ast.specs.declared.instruction.Instruction.{Instruction, roll-Instruction}
 use Rattle.sheet_ast.specs.declared.instruction.Instruction.TheOpen.{Instruction-F, Variable-F, VarValue-F, When-F}
-use Rattle.sheet_ast.specs.declared.instruction.Instruction.TheFolds.{map-Instruction, map-Variable, map-VarValue, map-When, fold-roll-Instruction, fold-roll-Variable, fold-roll-VarValue, fold-roll-When, ind-Instruction, ind-Variable, ind-VarValue}
+use Rattle.sheet_ast.specs.declared.instruction.Instruction.TheFolds.{map-Instruction, map-Variable, map-VarValue, map-When, fold-roll-Instruction}
+use Rattle.sheet_ast.specs.declared.instruction.Instruction.TheFolds.{fold-roll-Variable, fold-roll-VarValue, fold-roll-When, ind-Instruction}
+use Rattle.sheet_ast.specs.declared.instruction.Instruction.TheFolds.{ind-Variable, ind-VarValue}
 use Rattle.sheet_ast.specs.declared.instruction.LiteralAttr.{LiteralAttr}
 use Rattle.sheet_ast.specs.declared.instruction.SortDecl.{SortDecl}
 use Rattle.sheet_ast.specs.declared.instruction.Variable.{Variable, roll-Variable}
@@ -34,7 +36,10 @@ use Rattle.xpath_meaning.specs.Streams.{Stream}
 use Rattle.xpath_laws.proofs.Keeping.{KeepsItemsIf}
 use Rattle.xpath_laws.proofs.Expressions.{expr_keeps}
 use Rattle.xpath_laws.proofs.Staying.{with_faults_stays}
-use Rattle.engine_meaning.specs.Execution.{Called, InMode, Named, Templates, Action, Giving, Binding, Case, in_order, within, made_apart, if_true, attributes_in, copies_in, value_copied, shallow, if_else, otherwise_does, chosen_case, handed, terminated, acts, spends, binding_by, giving_by, case_by, does, binding_of, giving_of, case_of, body_does, or_own, params_in, instantiated, built_in_of, template_does, chosen, templates, most_nested, execution_of}
+use Rattle.engine_meaning.specs.Execution.{Called, InMode, Named, Templates, Action, Giving, Binding, Case, in_order, within, made_apart, if_true}
+use Rattle.engine_meaning.specs.Execution.{attributes_in, copies_in, value_copied, shallow, if_else, otherwise_does, chosen_case, handed, terminated}
+use Rattle.engine_meaning.specs.Execution.{acts, spends, binding_by, giving_by, case_by, does, binding_of, giving_of, case_of, body_does, or_own}
+use Rattle.engine_meaning.specs.Execution.{params_in, instantiated, built_in_of, template_does, chosen, templates, most_nested, execution_of}
 use Rattle.engine_meaning.specs.Items.{AtItem, unsorted, selected, children_by}
 use Rattle.engine_meaning.specs.Meaning.{global_value, global_in, globals_in, undone, at_first, transforms, strip_rules_of, sheet_world, meaning_of}
 use Rattle.engine_meaning.specs.Places.{World, Setting, setting, Place, place, with_local, Given, given_as}
@@ -104,7 +109,8 @@ module _ (sheet : Sheet) (globals : List Value) (w v : World) (x : Continues w v
   copied_keeps (Atom atom) = emit_keeps _
   copied_keeps (Fragment events) = emit_all_keeps events
 
-  shallow_keeps : (k : Kind) (row : Row) (body : List Action) → AllOf ActionKeeps body → (call dall : Templates) → TemplatesKeep call dall → (c : Place) → Keeps (shallow k row body W call c) (shallow k row body V dall c)
+  shallow_keeps : (k : Kind) (row : Row) (body : List Action) → AllOf ActionKeeps body → (call dall : Templates) → TemplatesKeep call dall → (c : Place)
+      → Keeps (shallow k row body W call c) (shallow k row body V dall c)
   shallow_keeps kind.Root row body k call dall d c = within_keeps body k call dall d c
   shallow_keeps kind.Element row body k call dall d c = then_keeps (then_keeps (emit_keeps _) (within_keeps body k call dall d c)) (emit_keeps _)
   shallow_keeps kind.Attribute row body k call dall d c = emit_all_keeps _
@@ -116,11 +122,13 @@ module _ (sheet : Sheet) (globals : List Value) (w v : World) (x : Continues w v
   SomeKeep None = Unit {0}
   SomeKeep (Some body) = AllOf ActionKeeps body
 
-  otherwise_keeps : (body : Option (List Action)) → SomeKeep body → (call dall : Templates) → TemplatesKeep call dall → (c : Place) → Keeps (otherwise_does body W call c) (otherwise_does body V dall c)
+  otherwise_keeps : (body : Option (List Action)) → SomeKeep body → (call dall : Templates) → TemplatesKeep call dall → (c : Place)
+      → Keeps (otherwise_does body W call c) (otherwise_does body V dall c)
   otherwise_keeps None k call dall d c = pure_keeps tt
   otherwise_keeps (Some body) k call dall d c = within_keeps body k call dall d c
 
-  cases_keep : (ks : List Case) → AllOf CaseKeeps ks → (other : Option (List Action)) → SomeKeep other → (call dall : Templates) → TemplatesKeep call dall → (c : Place) → Keeps (chosen_case ks other W call c) (chosen_case ks other V dall c)
+  cases_keep : (ks : List Case) → AllOf CaseKeeps ks → (other : Option (List Action)) → SomeKeep other → (call dall : Templates) → TemplatesKeep call dall → (c : Place)
+      → Keeps (chosen_case ks other W call c) (chosen_case ks other V dall c)
   cases_keep [] a other o call dall d c = otherwise_keeps other o call dall d c
   cases_keep (k ∷ ks) a other o call dall d c =
       bind_keeps (ask_keeps _ _ (truth_stays sheet globals w v x c k.test)) (λ holds. else_keeps holds (then_keeps (a.0 call dall d c) (pure_keeps tt)) (cases_keep ks a.1 other o call dall d c))
@@ -133,8 +141,10 @@ module _ (sheet : Sheet) (globals : List Value) (w v : World) (x : Continues w v
   terminated_keeps true = fail_keeps Terminated
   terminated_keeps false = pure_keeps tt
 
-  unsorted_keeps : (items : Option (Meaning Stream)) → KeepsItemsIf items → (c : Place) (e : Expr) {act bct : AtItem} → ((y : Context) → Keeps (act y) (bct y)) → Keeps (unsorted items W c e act) (unsorted items V c e bct)
-  unsorted_keeps (Some items) i c e k = streamed_keeps (items w.reading (globals ++ c.locals) c.context) (items v.reading (globals ++ c.locals) c.context) (i w.reading v.reading x.reading (globals ++ c.locals) c.context) k
+  unsorted_keeps : (items : Option (Meaning Stream)) → KeepsItemsIf items → (c : Place) (e : Expr) {act bct : AtItem} → ((y : Context) → Keeps (act y) (bct y))
+      → Keeps (unsorted items W c e act) (unsorted items V c e bct)
+  unsorted_keeps (Some items) i c e k =
+      streamed_keeps (items w.reading (globals ++ c.locals) c.context) (items v.reading (globals ++ c.locals) c.context) (i w.reading v.reading x.reading (globals ++ c.locals) c.context) k
   unsorted_keeps None i c e k = bind_keeps (ask_keeps _ _ (nodes_stay sheet globals w v x c e)) (λ nodes. over_keeps nodes k)
 
   selected_keeps : (c : Place) (e : Expr) (sorts : List SortDecl) {act bct : AtItem} → ((y : Context) → Keeps (act y) (bct y)) → Keeps (selected W c e sorts act) (selected V c e sorts bct)
@@ -291,12 +301,14 @@ module _ (sheet : Sheet) (globals : List Value) (w v : World) (x : Continues w v
   own_keeps (Some value) k = pure_keeps value
   own_keeps None k = k
 
-  params_keep : (bs : List Binding) → AllOf BindingKeeps bs → (given : List Given) (call dall : Templates) → TemplatesKeep call dall → (c : Place) → Keeps (params_in bs given W call c) (params_in bs given V dall c)
+  params_keep : (bs : List Binding) → AllOf BindingKeeps bs → (given : List Given) (call dall : Templates) → TemplatesKeep call dall → (c : Place)
+      → Keeps (params_in bs given W call c) (params_in bs given V dall c)
   params_keep [] a given call dall d c = pure_keeps c.locals
   params_keep (b ∷ bs) a given call dall d c =
       bind_keeps (then_keeps spend_keeps (own_keeps (given_as b.name given) (a.0 call dall d c))) (λ value. params_keep bs a.1 given call dall d (with_local c value))
 
-  instantiated_keeps : (template : Option Template) (given : List Given) (call dall : Templates) → TemplatesKeep call dall → (y : Context) → Keeps (instantiated template given W call y) (instantiated template given V dall y)
+  instantiated_keeps : (template : Option Template) (given : List Given) (call dall : Templates) → TemplatesKeep call dall → (y : Context)
+      → Keeps (instantiated template given W call y) (instantiated template given V dall y)
   instantiated_keeps None given call dall d y = pure_keeps tt
   instantiated_keeps (Some template) given call dall d y =
       bind_keeps (params_keep _ (each_binds template.params) given call dall d (place y [])) (λ locals. then_keeps (body_keeps template.body call dall d (place y locals)) (pure_keeps tt))
@@ -309,7 +321,8 @@ module _ (sheet : Sheet) (globals : List Value) (w v : World) (x : Continues w v
   built_in_keeps kind.Instruction called call dall d y = pure_keeps tt
   built_in_keeps kind.Comment called call dall d y = pure_keeps tt
 
-  template_keeps : (template : Option ℕ) (called : Called) (given : List Given) (call dall : Templates) → TemplatesKeep call dall → (y : Context) → Keeps (template_does template called given W call y) (template_does template called given V dall y)
+  template_keeps : (template : Option ℕ) (called : Called) (given : List Given) (call dall : Templates) → TemplatesKeep call dall → (y : Context)
+      → Keeps (template_does template called given W call y) (template_does template called given V dall y)
   template_keeps None called given call dall d y = bind_keeps (ask_keeps _ _ (x.reading.row y.node)) (λ row. built_in_keeps row.kind called call dall d y)
   template_keeps (Some template) called given call dall d y = instantiated_keeps (slice_get sheet.templates template) given call dall d y
 
@@ -329,7 +342,8 @@ module _ (sheet : Sheet) (globals : List Value) (w v : World) (x : Continues w v
   global_keeps : (global : Global) → Keeps (global_value global W) (global_value global V)
   global_keeps global = then_keeps spend_keeps (giving_keeps global.value (templates most_nested W) (templates most_nested V) (templates_keep most_nested) (place (alone 0) []))
 
-one_global_keeps : (sheet : Sheet) (w v : World) → Continues w v → (global : Option Global) (at : ℕ) (values : List Value) → Keeps (global_in sheet w global at values) (global_in sheet v global at values)
+one_global_keeps : (sheet : Sheet) (w v : World) → Continues w v → (global : Option Global) (at : ℕ) (values : List Value)
+    → Keeps (global_in sheet w global at values) (global_in sheet v global at values)
 one_global_keeps sheet w v x None at values = pure_keeps values
 one_global_keeps sheet w v x (Some global) at values = bind_keeps (global_keeps sheet values w v x global) (λ value. pure_keeps _)
 
@@ -340,11 +354,13 @@ globals_keep sheet w v x (at ∷ order) values = bind_keeps (one_global_keeps sh
 pub transforms_keep : (sheet : Sheet) (order : List ℕ) (w v : World) → Continues w v → Keeps (transforms sheet order w) (transforms sheet order v)
 transforms_keep sheet order w v x = bind_keeps (globals_keep sheet w v x order (undone sheet)) (λ globals. (templates_keep sheet globals w v x most_nested).at (InMode 0) [] (alone 0))
 
-pub meaning_later : (sheet : Sheet) (order : List ℕ) (id : Option (List ℕ)) (before later : List Step) (budget : ℕ) → Continues (sheet_world sheet id before) (sheet_world sheet id later) → Later (meaning_of sheet order id before budget) (meaning_of sheet order id later budget)
+pub meaning_later : (sheet : Sheet) (order : List ℕ) (id : Option (List ℕ)) (before later : List Step) (budget : ℕ)
+    → Continues (sheet_world sheet id before) (sheet_world sheet id later) → Later (meaning_of sheet order id before budget) (meaning_of sheet order id later budget)
 unfolding meaning_of
 meaning_later sheet order id before later budget x = (transforms_keep sheet order (sheet_world sheet id before) (sheet_world sheet id later) x).later (at_first budget)
 
 -- a longer list of steps tells what a shorter one told
-pub worlds_continue : (sheet : Sheet) (id : Option (List ℕ)) (before later : List Step) → Extends (reading_of (strip_rules_of sheet) sheet.keys id before) (reading_of (strip_rules_of sheet) sheet.keys id later)
+pub worlds_continue : (sheet : Sheet) (id : Option (List ℕ)) (before later : List Step)
+    → Extends (reading_of (strip_rules_of sheet) sheet.keys id before) (reading_of (strip_rules_of sheet) sheet.keys id later)
     → ((n : ℕ) → Stays (copy_of (strip_rules_of sheet) before n) (copy_of (strip_rules_of sheet) later n)) → Continues (sheet_world sheet id before) (sheet_world sheet id later)
 worlds_continue sheet id before later x k = record { reading = x; copy = λ n. with_faults_stays _ _ (k n) }

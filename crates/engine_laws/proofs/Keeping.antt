@@ -138,7 +138,8 @@ ends_adds Whole s = begins_refl s
 ends_adds (Fault e) s = begins_refl s
 ends_adds (Cut m) s = begins_refl s
 
-each_adds : (act : AtItem) → ((x : Context) (s : State) → Begins s (state_of (act x s))) → (z : Size) (at : ℕ) (ns : List ℕ) (ending : Ending) (s : State) → Begins s (state_of (each act z at ns ending s))
+each_adds : (act : AtItem) → ((x : Context) (s : State) → Begins s (state_of (act x s))) → (z : Size) (at : ℕ) (ns : List ℕ) (ending : Ending) (s : State)
+    → Begins s (state_of (each act z at ns ending s))
 each_adds act a z at [] ending s = ends_adds ending s
 each_adds act a z at (n ∷ ns) ending s =
     begins_trans (a (at_item z at n) s) (after_adds (act (at_item z at n) s) (λ _. each act z (suc at) ns ending) (λ x t. each_adds act a z (suc at) ns ending t))
@@ -148,11 +149,13 @@ each_keeps k z at [] ending = alone (ends_adds ending)
 each_keeps k z at (n ∷ ns) ending = then_keeps (k (at_item z at n)) (each_keeps k z (suc at) ns ending)
 
 -- items that are cut, and more of them
-more_keeps : {act bct : AtItem} → ((x : Context) → Keeps (act x) (bct x)) → (z : Size) (at m : ℕ) (ns more : List ℕ) (ending : Ending) → Keeps (each act z at ns (Cut m)) (each bct z at (ns ++ more) ending)
+more_keeps : {act bct : AtItem} → ((x : Context) → Keeps (act x) (bct x)) → (z : Size) (at m : ℕ) (ns more : List ℕ) (ending : Ending)
+    → Keeps (each act z at ns (Cut m)) (each bct z at (ns ++ more) ending)
 more_keeps {bct = bct} k z at m [] more ending = record { later = λ s. each_adds bct (λ x. (k x).adds) z at more ending s; adds = each_adds bct (λ x. (k x).adds) z at more ending }
 more_keeps k z at m (n ∷ ns) more ending = then_keeps (k (at_item z at n)) (more_keeps k z (suc at) m ns more ending)
 
-each_goes_on : {act bct : AtItem} → ((x : Context) → Keeps (act x) (bct x)) → (z : Size) (at : ℕ) (ns : List ℕ) (ending : Ending) (later : Stream) → GoesOnFrom ns ending later → Keeps (each act z at ns ending) (each bct z at later.items later.ending)
+each_goes_on : {act bct : AtItem} → ((x : Context) → Keeps (act x) (bct x)) → (z : Size) (at : ℕ) (ns : List ℕ) (ending : Ending) (later : Stream) → GoesOnFrom ns ending later
+    → Keeps (each act z at ns ending) (each bct z at later.items later.ending)
 each_goes_on {act} {bct} k z at ns Whole later h = subst (λ (w : Stream). Keeps (each act z at ns Whole) (each bct z at w.items w.ending)) (sym h) (each_keeps k z at ns Whole)
 each_goes_on {act} {bct} k z at ns (Fault e) later h = subst (λ (w : Stream). Keeps (each act z at ns (Fault e)) (each bct z at w.items w.ending)) (sym h) (each_keeps k z at ns (Fault e))
 each_goes_on {act} {bct} k z at ns (Cut m) later h = subst (λ w. Keeps (each act z at ns (Cut m)) (each bct z at w later.ending)) (sym h.1) (more_keeps k z at m ns h.0 later.ending)

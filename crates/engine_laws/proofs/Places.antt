@@ -79,8 +79,10 @@ module _ (cmp : ℕ → ℕ → Ordering) where
       | inr e ↦ elim (cases_Bool (x == y)) [
         | inl f ↦ eqb-true x y f
         | inr f ↦
-            let i : 0 < times x ys = (let m = more_times x x xs in let n = more_times x y ys in let o = itself_once x in let p : one_for x y ≡ 0 = ap (λ b. cond b 1 0) e in let q = t x in omega (arith, m, n, o, p, q)) in
-            let j : 0 < times y xs = (let m = more_times y x xs in let n = more_times y y ys in let o = itself_once y in let p : one_for y x ≡ 0 = ap (λ b. cond b 1 0) f in let q = t y in omega (arith, m, n, o, p, q)) in
+            let i : 0 < times x ys = (let m = more_times x x xs in let n = more_times x y ys in let o = itself_once x in let p : one_for x y ≡ 0 = ap (λ b. cond b 1 0) e in let q =
+            t x in omega (arith, m, n, o, p, q)) in
+            let j : 0 < times y xs = (let m = more_times y x xs in let n = more_times y y ys in let o = itself_once y in let p : one_for y x ≡ 0 = ap (λ b. cond b 1 0) f in let q =
+            t y in omega (arith, m, n, o, p, q)) in
             same_if_tied x y (in_list x y ys b i) (in_list y x xs a j)
       ]
     ]
@@ -92,7 +94,8 @@ module _ (cmp : ℕ → ℕ → Ordering) where
     one_ascending (x ∷ xs) [] a b t = absurd (let n = more_times x x xs in let o = itself_once x in let q : times x (x ∷ xs) ≡ 0 = t x in omega (arith, n, o, q))
     one_ascending (x ∷ xs) (y ∷ ys) a b t =
         let e = same_head x y xs ys a.0 b.0 t in
-        let r = one_ascending xs ys a.1 b.1 (λ z. let m = more_times z x xs in let n = more_times z y ys in let q = t z in let o : one_for z x ≡ one_for z y = ap (one_for z) e in omega (arith, m, n, q, o)) in
+        let r = one_ascending xs ys a.1 b.1
+        (λ z. let m = more_times z x xs in let n = more_times z y ys in let q = t z in let o : one_for z x ≡ one_for z y = ap (one_for z) e in omega (arith, m, n, q, o)) in
         ap (λ z. z ∷ xs) e ∙ ap (λ l. y ∷ l) r
 
     not_less : (o : Ordering) → is_lt o ≡ false → o ≡ Less → ⊥
@@ -105,7 +108,8 @@ module _ (cmp : ℕ → ℕ → Ordering) where
     ascending [] s = tt
     ascending (x ∷ []) s = (tt, tt)
     ascending (x ∷ y ∷ ys) s =
-        let rest = ascending (y ∷ ys) (λ k d l b. subst (λ n. is_lt (cmp (get_or (x ∷ y ∷ ys) n d) (get_or (x ∷ y ∷ ys) (suc k) d)) ≡ false) (let e : suc k + 1 ≡ suc (k + 1) = omega arith in e) (s (suc k) d (omega arith) (omega (arith, b)))) in
+        let rest = ascending (y ∷ ys) (λ k d l b. subst (λ n. is_lt (cmp (get_or (x ∷ y ∷ ys) n d) (get_or (x ∷ y ∷ ys) (suc k) d)) ≡ false)
+        (let e : suc k + 1 ≡ suc (k + 1) = omega arith in e) (s (suc k) d (omega arith) (omega (arith, b)))) in
         let near : NotBefore cmp y x = not_less (cmp y x) (s 0 0 (omega arith) (omega arith)) in
         ((near, all_through cmp total x y ys near rest.0), rest)
 
@@ -117,7 +121,8 @@ tied_places hows rows a b e = by_rows (row_cmp hows 0 (row_at rows a) (row_at ro
     by_rows Equal f = ranked a b Equal (sym f)
     by_rows Greater f = cc
 
-pub one_sorted : (hows : List How) (rows : List (List KeyPart)) (places : List ℕ) → IsPermutation (range_with_len 0 (length rows)) places → IsSorted (place_cmp hows rows) places → places ≡ sorted_places_of hows rows
+pub one_sorted : (hows : List How) (rows : List (List KeyPart)) (places : List ℕ) → IsPermutation (range_with_len 0 (length rows)) places → IsSorted (place_cmp hows rows) places
+    → places ≡ sorted_places_of hows rows
 unfolding sorted_places_of
 one_sorted hows rows places p s =
     one_ascending (place_cmp hows rows) (place_total hows rows) (tied_places hows rows) places (sorted_by (place_cmp hows rows) (range_with_len 0 (length rows)))

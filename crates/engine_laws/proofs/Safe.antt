@@ -11,7 +11,9 @@ use Rattle.result_events.specs.declared.event.ResultEvent.{ResultEvent}
 use Rattle.result_events.specs.declared.event.ResultEvent.TheVariants as event
 use Rattle.sheet_ast.specs.declared.instruction.Instruction.{Instruction, roll-Instruction}
 use Rattle.sheet_ast.specs.declared.instruction.Instruction.TheOpen.{Instruction-F, Variable-F, VarValue-F, When-F}
-use Rattle.sheet_ast.specs.declared.instruction.Instruction.TheFolds.{map-Instruction, map-Variable, map-VarValue, map-When, fold-roll-Instruction, fold-roll-Variable, fold-roll-VarValue, fold-roll-When, ind-Instruction, ind-Variable, ind-VarValue}
+use Rattle.sheet_ast.specs.declared.instruction.Instruction.TheFolds.{map-Instruction, map-Variable, map-VarValue, map-When, fold-roll-Instruction}
+use Rattle.sheet_ast.specs.declared.instruction.Instruction.TheFolds.{fold-roll-Variable, fold-roll-VarValue, fold-roll-When, ind-Instruction}
+use Rattle.sheet_ast.specs.declared.instruction.Instruction.TheFolds.{ind-Variable, ind-VarValue}
 use Rattle.sheet_ast.specs.declared.instruction.LiteralAttr.{LiteralAttr}
 use Rattle.sheet_ast.specs.declared.instruction.SortDecl.{SortDecl}
 use Rattle.sheet_ast.specs.declared.instruction.Variable.{Variable, roll-Variable}
@@ -35,7 +37,10 @@ use Rattle.xpath_laws.specs.Sound.{Rows, Anything, Each, IsValue, AllValues, IsC
 use Rattle.xpath_laws.proofs.Sounding.{SoundItemsIf}
 use Rattle.xpath_laws.proofs.Tells.{each_append}
 use Rattle.xpath_laws.proofs.Trees.{expr_sound}
-use Rattle.engine_meaning.specs.Execution.{Called, InMode, Named, Templates, Action, Giving, Binding, Case, in_order, within, made_apart, if_true, attributes_in, copies_in, value_copied, shallow, if_else, otherwise_does, chosen_case, handed, terminated, acts, spends, binding_by, giving_by, case_by, does, binding_of, giving_of, case_of, body_does, or_own, params_in, instantiated, built_in_of, template_does, chosen, templates, most_nested}
+use Rattle.engine_meaning.specs.Execution.{Called, InMode, Named, Templates, Action, Giving, Binding, Case, in_order, within, made_apart, if_true}
+use Rattle.engine_meaning.specs.Execution.{attributes_in, copies_in, value_copied, shallow, if_else, otherwise_does, chosen_case, handed, terminated}
+use Rattle.engine_meaning.specs.Execution.{acts, spends, binding_by, giving_by, case_by, does, binding_of, giving_of, case_of, body_does, or_own}
+use Rattle.engine_meaning.specs.Execution.{params_in, instantiated, built_in_of, template_does, chosen, templates, most_nested}
 use Rattle.engine_meaning.specs.Items.{AtItem, unsorted, selected, children_by, children_of}
 use Rattle.engine_meaning.specs.Meaning.{global_value, global_in, globals_in, undone, transforms}
 use Rattle.engine_meaning.specs.Places.{World, Setting, setting, Place, place, with_local, Given, or_later, given_as}
@@ -115,19 +120,22 @@ module _ (T O : Rows) (sheet : Sheet) (globals : List Value) (w : World) (x : Is
   attributes_safe : (attributes : List LiteralAttr) (c : Place) → IsSound T c → Safe O Anything (attributes_in attributes W c)
   attributes_safe [] c p = pure_safe O Anything tt tt
   attributes_safe (attribute ∷ more) c p =
-      bind_safe O Anything Anything (ask _) _ (ask_safe O Anything _ (template_told T O sheet globals w x g c p attribute.value)) (λ value a. one_then (emit _) (attributes_in more W c) (emit_safe O _) (attributes_safe more c p))
+      bind_safe O Anything Anything (ask _) _ (ask_safe O Anything _ (template_told T O sheet globals w x g c p attribute.value))
+      (λ value a. one_then (emit _) (attributes_in more W c) (emit_safe O _) (attributes_safe more c p))
 
   copies_safe : (ns : List ℕ) → Each T ns → Safe O Anything (copies_in w ns)
   copies_safe [] a = pure_safe O Anything tt tt
   copies_safe (n ∷ ns) a =
-      bind_safe O Anything Anything (ask (w.copy n)) _ (ask_safe O Anything (w.copy n) (x.copy n a.0)) (λ events b. one_then (emit_all events) (copies_in w ns) (emit_all_safe O events) (copies_safe ns a.1))
+      bind_safe O Anything Anything (ask (w.copy n)) _ (ask_safe O Anything (w.copy n) (x.copy n a.0))
+      (λ events b. one_then (emit_all events) (copies_in w ns) (emit_all_safe O events) (copies_safe ns a.1))
 
   copied_safe : (v : Value) → IsValue T v → Safe O Anything (value_copied w v)
   copied_safe (Nodes nodes) s = copies_safe nodes s.1
   copied_safe (Atom atom) s = emit_safe O _
   copied_safe (Fragment events) s = emit_all_safe O events
 
-  shallow_safe : (k : Kind) (row : Row) (body : List Action) → Each ActionSafe body → (call : Templates) → TemplatesSafe call → (c : Place) → IsSound T c → Safe O Anything (shallow k row body W call c)
+  shallow_safe : (k : Kind) (row : Row) (body : List Action) → Each ActionSafe body → (call : Templates) → TemplatesSafe call → (c : Place) → IsSound T c
+      → Safe O Anything (shallow k row body W call c)
   shallow_safe kind.Root row body k call d c p = within_safe body k call d c p
   shallow_safe kind.Element row body k call d c p =
       one_then (emit _ >> within body W call c) (emit event.End) (one_then (emit _) (within body W call c) (emit_safe O _) (within_safe body k call d c p)) (emit_safe O event.End)
@@ -144,7 +152,8 @@ module _ (T O : Rows) (sheet : Sheet) (globals : List Value) (w : World) (x : Is
   otherwise_safe None k call d c p = pure_safe O Anything tt tt
   otherwise_safe (Some body) k call d c p = within_safe body k call d c p
 
-  cases_safe : (ks : List Case) → Each CaseSafe ks → (other : Option (List Action)) → SomeSafe other → (call : Templates) → TemplatesSafe call → (c : Place) → IsSound T c → Safe O Anything (chosen_case ks other W call c)
+  cases_safe : (ks : List Case) → Each CaseSafe ks → (other : Option (List Action)) → SomeSafe other → (call : Templates) → TemplatesSafe call → (c : Place) → IsSound T c
+      → Safe O Anything (chosen_case ks other W call c)
   cases_safe [] a other o call d c p = otherwise_safe other o call d c p
   cases_safe (k ∷ ks) a other o call d c p =
       bind_safe O Anything Anything (ask _) _ (ask_safe O Anything _ (truth_told T O sheet globals w x g c p k.test))
@@ -166,7 +175,8 @@ module _ (T O : Rows) (sheet : Sheet) (globals : List Value) (w : World) (x : Is
 
   selected_safe : (c : Place) → IsSound T c → (e : Expr) (sorts : List SortDecl) (act : AtItem) → ActsSafely O T act → Safe O Anything (selected W c e sorts act)
   selected_safe c p e [] act k = unsorted_safe (meant e).items (expr_sound T O e).items c p e act k
-  selected_safe c p e (sort ∷ sorts) act k = bind_safe O (Each T) Anything (ask _) _ (ask_safe O (Each T) _ (sorted_told T O sheet globals w x g c p e (sort ∷ sorts))) (λ nodes a. over_safe O T act k nodes a)
+  selected_safe c p e (sort ∷ sorts) act k =
+      bind_safe O (Each T) Anything (ask _) _ (ask_safe O (Each T) _ (sorted_told T O sheet globals w x g c p e (sort ∷ sorts))) (λ nodes a. over_safe O T act k nodes a)
 
   children_by_safe : (b : Bool) (n : ℕ) → T n → (act : AtItem) → ActsSafely O T act → Safe O Anything (children_by b W n act)
   children_by_safe true n t act k = bind_safe O (Each T) Anything (ask _) _ (ask_safe O (Each T) _ (x.reading.axis axis.Child test.Any n t)) (λ nodes a. over_safe O T act k nodes a)
@@ -222,18 +232,23 @@ module _ (T O : Rows) (sheet : Sheet) (globals : List Value) (w : World) (x : Is
 
   -- a body between a start and an end
   around : (start : ResultEvent) (inside : Run (Unit {0})) (c : Place) → IsSound T c → Safe O Anything inside → Safe O (AllValues T) (emit start >> inside >> emit event.End >> pure c.locals)
-  around start inside c p k = behind (emit start >> inside >> emit event.End) c p (one_then (emit start >> inside) (emit event.End) (one_then (emit start) inside (emit_safe O start) k) (emit_safe O event.End))
+  around start inside c p k = behind (emit start >> inside >> emit event.End) c p
+      (one_then (emit start >> inside) (emit event.End) (one_then (emit start) inside (emit_safe O start) k) (emit_safe O event.End))
 
   step_safe : (y : Instruction-F Instructions Values Variables Whens) → ActionSafe (acts (meant_layer (bare y)))
   step_safe (Instruction-F.LiteralText bytes) call d c p = behind (emit _) c p (emit_safe O _)
   step_safe (Instruction-F.LiteralElement name attributes body) call d c p =
-      behind _ c p (one_then _ (emit event.End) (one_then _ _ (one_then (emit _) _ (emit_safe O _) (attributes_safe attributes c p)) (within_safe _ (all_safe body) call d c p)) (emit_safe O event.End))
-  step_safe (Instruction-F.ValueOf e) call d c p = bind_safe O Anything (AllValues T) (ask _) _ (ask_safe O Anything _ (text_told T O sheet globals w x g c p e)) (λ string a. behind (emit _) c p (emit_safe O _))
-  step_safe (Instruction-F.CopyOf e) call d c p = bind_safe O (IsValue T) (AllValues T) (ask _) _ (ask_safe O (IsValue T) _ (value_told T O sheet globals w x g c p e)) (λ value v. behind _ c p (copied_safe value v))
+      behind _ c p (one_then _ (emit event.End) (one_then _ _ (one_then (emit _) _ (emit_safe O _) (attributes_safe attributes c p)) (within_safe _ (all_safe body) call d c p))
+      (emit_safe O event.End))
+  step_safe (Instruction-F.ValueOf e) call d c p =
+      bind_safe O Anything (AllValues T) (ask _) _ (ask_safe O Anything _ (text_told T O sheet globals w x g c p e)) (λ string a. behind (emit _) c p (emit_safe O _))
+  step_safe (Instruction-F.CopyOf e) call d c p =
+      bind_safe O (IsValue T) (AllValues T) (ask _) _ (ask_safe O (IsValue T) _ (value_told T O sheet globals w x g c p e)) (λ value v. behind _ c p (copied_safe value v))
   step_safe (Instruction-F.Copy body) call d c p =
       bind_safe O Anything (AllValues T) (ask _) _ (ask_safe O Anything _ (row_told T O sheet globals w x g c p)) (λ row a. behind _ c p (shallow_safe row.kind row _ (all_safe body) call d c p))
   step_safe (Instruction-F.Element name namespace scope body) call d c p =
-      bind_safe O Anything (AllValues T) (ask _) _ (ask_safe O Anything _ (name_told T O sheet globals w x g c p false name namespace scope)) (λ found a. around _ _ c p (within_safe _ (all_safe body) call d c p))
+      bind_safe O Anything (AllValues T) (ask _) _ (ask_safe O Anything _ (name_told T O sheet globals w x g c p false name namespace scope))
+      (λ found a. around _ _ c p (within_safe _ (all_safe body) call d c p))
   step_safe (Instruction-F.Attribute name namespace scope body) call d c p =
       bind_safe O Anything (AllValues T) (ask _) _ (ask_safe O Anything _ (name_told T O sheet globals w x g c p true name namespace scope))
       (λ found a. bind_safe O Anything (AllValues T) _ _ (made_safe _ (all_safe body) call d c p) (λ made b. behind (emit _) c p (emit_safe O _)))
@@ -244,7 +259,8 @@ module _ (T O : Rows) (sheet : Sheet) (globals : List Value) (w : World) (x : Is
   step_safe (Instruction-F.Message terminate body) call d c p =
       bind_safe O Anything (AllValues T) _ _ (made_safe _ (all_safe body) call d c p) (λ made b. behind _ c p (one_then _ (terminated terminate) (tell_safe O _) (terminated_safe terminate)))
   step_safe (Instruction-F.If test body) call d c p =
-      bind_safe O Anything (AllValues T) (ask _) _ (ask_safe O Anything _ (truth_told T O sheet globals w x g c p test)) (λ holds a. behind _ c p (true_safe holds _ (within_safe _ (all_safe body) call d c p)))
+      bind_safe O Anything (AllValues T) (ask _) _ (ask_safe O Anything _ (truth_told T O sheet globals w x g c p test))
+      (λ holds a. behind _ c p (true_safe holds _ (within_safe _ (all_safe body) call d c p)))
   step_safe (Instruction-F.Choose whens None) call d c p = behind _ c p (cases_safe _ (all_cases whens) None tt call d c p)
   step_safe (Instruction-F.Choose whens (Some body)) call d c p = behind _ c p (cases_safe _ (all_cases whens) _ (all_safe body) call d c p)
   step_safe (Instruction-F.Local variable) call d c p =
@@ -319,21 +335,26 @@ module _ (T O : Rows) (sheet : Sheet) (globals : List Value) (w : World) (x : Is
   own_safe (Some value) s r k = pure_safe O (IsValue T) value s
   own_safe None s r k = k
 
-  params_safe : (bs : List Binding) → Each BindingSafe bs → (given : List Given) → Each (GivenSound T) given → (call : Templates) → TemplatesSafe call → (c : Place) → IsSound T c → Safe O (AllValues T) (params_in bs given W call c)
+  params_safe : (bs : List Binding) → Each BindingSafe bs → (given : List Given) → Each (GivenSound T) given → (call : Templates) → TemplatesSafe call → (c : Place) → IsSound T c
+      → Safe O (AllValues T) (params_in bs given W call c)
   params_safe [] a given h call d c p = pure_safe O (AllValues T) c.locals p.locals
   params_safe (b ∷ bs) a given h call d c p =
       bind_safe O (IsValue T) (AllValues T) (spend >> or_own (given_as b.name given) (b.value W call c)) _
       (then_safe O Anything (IsValue T) spend _ (spend_safe O) (own_safe (given_as b.name given) (given_sound T b.name given h) (b.value W call c) (a.0 call d c p)))
       (λ value v. params_safe bs a.1 given h call d (with_local c value) (record { locals = each_append (IsValue T) c.locals (value ∷ []) p.locals (v, tt); context = p.context }))
 
-  instantiated_safe : (template : Option Template) (given : List Given) → Each (GivenSound T) given → (call : Templates) → TemplatesSafe call → (y : Context) → IsContext T y → Safe O Anything (instantiated template given W call y)
+  instantiated_safe : (template : Option Template) (given : List Given) → Each (GivenSound T) given → (call : Templates) → TemplatesSafe call → (y : Context) → IsContext T y
+      → Safe O Anything (instantiated template given W call y)
   instantiated_safe None given h call d y i = pure_safe O Anything tt tt
   instantiated_safe (Some template) given h call d y i =
-      bind_safe O (AllValues T) Anything (params_in (map binding_of template.params) given W call (place y [])) _ (params_safe _ (each_binds template.params) given h call d (place y []) (record { locals = tt; context = i }))
-      (λ locals l. then_safe O (AllValues T) Anything (body_does template.body W call (place y locals)) (pure tt) (order_safe _ (each_does template.body) call d (place y locals) (record { locals = l; context = i })) (pure_safe O Anything tt tt))
+      bind_safe O (AllValues T) Anything (params_in (map binding_of template.params) given W call (place y [])) _
+      (params_safe _ (each_binds template.params) given h call d (place y []) (record { locals = tt; context = i }))
+      (λ locals l. then_safe O (AllValues T) Anything (body_does template.body W call (place y locals)) (pure tt)
+      (order_safe _ (each_does template.body) call d (place y locals) (record { locals = l; context = i })) (pure_safe O Anything tt tt))
 
   text_safe : (n : ℕ) → T n → Safe O Anything (spend >> ask (R.value n) >>= λ value. emit (event.Text value))
-  text_safe n t = bind_safe O Anything Anything (spend >> ask (R.value n)) _ (then_safe O Anything Anything spend (ask (R.value n)) (spend_safe O) (ask_safe O Anything (R.value n) (x.reading.value n t))) (λ value a. emit_safe O _)
+  text_safe n t = bind_safe O Anything Anything (spend >> ask (R.value n)) _
+      (then_safe O Anything Anything spend (ask (R.value n)) (spend_safe O) (ask_safe O Anything (R.value n) (x.reading.value n t))) (λ value a. emit_safe O _)
 
   inner_safe : (called : Called) (call : Templates) → TemplatesSafe call → (y : Context) → IsContext T y → Safe O Anything (spend >> children_of W y.node (call called []))
   inner_safe called call d y i = then_safe O Anything Anything spend _ (spend_safe O) (children_by_safe (asks_size sheet) y.node i.node (call called []) (λ z j. d called [] tt z j))
@@ -346,8 +367,10 @@ module _ (T O : Rows) (sheet : Sheet) (globals : List Value) (w : World) (x : Is
   built_in_safe kind.Instruction called call d y i = pure_safe O Anything tt tt
   built_in_safe kind.Comment called call d y i = pure_safe O Anything tt tt
 
-  template_safe : (template : Option ℕ) (called : Called) (given : List Given) → Each (GivenSound T) given → (call : Templates) → TemplatesSafe call → (y : Context) → IsContext T y → Safe O Anything (template_does template called given W call y)
-  template_safe None called given h call d y i = bind_safe O Anything Anything (ask (R.row y.node)) _ (ask_safe O Anything (R.row y.node) (x.reading.row y.node i.node)) (λ row a. built_in_safe row.kind called call d y i)
+  template_safe : (template : Option ℕ) (called : Called) (given : List Given) → Each (GivenSound T) given → (call : Templates) → TemplatesSafe call → (y : Context) → IsContext T y
+      → Safe O Anything (template_does template called given W call y)
+  template_safe None called given h call d y i =
+      bind_safe O Anything Anything (ask (R.row y.node)) _ (ask_safe O Anything (R.row y.node) (x.reading.row y.node i.node)) (λ row a. built_in_safe row.kind called call d y i)
   template_safe (Some template) called given h call d y i = instantiated_safe (slice_get sheet.templates template) given h call d y i
 
   chosen_safe : (called : Called) (y : Context) → IsContext T y → Safe O Anything (chosen W called y)
@@ -367,7 +390,8 @@ module _ (T O : Rows) (sheet : Sheet) (globals : List Value) (w : World) (x : Is
   root_safe = templates_safe most_nested (InMode 0) [] tt (alone 0) at_root
 
   pub global_safe : (global : Global) → Safe O (IsValue T) (global_value global W)
-  global_safe global = then_safe O Anything (IsValue T) spend _ (spend_safe O) (giving_safe global.value (templates most_nested W) (templates_safe most_nested) (place (alone 0) []) (record { locals = tt; context = at_root }))
+  global_safe global = then_safe O Anything (IsValue T) spend _ (spend_safe O)
+      (giving_safe global.value (templates most_nested W) (templates_safe most_nested) (place (alone 0) []) (record { locals = tt; context = at_root }))
 
 set_sound : (T : Rows) (values : List Value) (at : ℕ) (v : Value) → AllValues T values → IsValue T v → AllValues T (slice_set values at v)
 set_sound T [] at v a s = tt
@@ -381,11 +405,16 @@ undone_sound T (global ∷ globals) = (tt, undone_sound T globals)
 module _ (T O : Rows) (sheet : Sheet) (w : World) (x : IsWorld T O w) where
   one_global_safe : (global : Option Global) (at : ℕ) (values : List Value) → AllValues T values → Safe O (AllValues T) (global_in sheet w global at values)
   one_global_safe None at values a = pure_safe O (AllValues T) values a
-  one_global_safe (Some global) at values a = bind_safe O (IsValue T) (AllValues T) (global_value global (setting sheet w values)) _ (global_safe T O sheet values w x a global) (λ value v. pure_safe O (AllValues T) _ (set_sound T values at value a v))
+  one_global_safe (Some global) at values a =
+      bind_safe O (IsValue T) (AllValues T) (global_value global (setting sheet w values)) _ (global_safe T O sheet values w x a global)
+      (λ value v. pure_safe O (AllValues T) _ (set_sound T values at value a v))
 
   globals_safe : (order : List ℕ) (values : List Value) → AllValues T values → Safe O (AllValues T) (globals_in sheet w order values)
   globals_safe [] values a = pure_safe O (AllValues T) values a
-  globals_safe (at ∷ order) values a = bind_safe O (AllValues T) (AllValues T) (global_in sheet w (slice_get sheet.globals at) at values) _ (one_global_safe (slice_get sheet.globals at) at values a) (λ later l. globals_safe order later l)
+  globals_safe (at ∷ order) values a =
+      bind_safe O (AllValues T) (AllValues T) (global_in sheet w (slice_get sheet.globals at) at values) _ (one_global_safe (slice_get sheet.globals at) at values a)
+      (λ later l. globals_safe order later l)
 
   pub transforms_safe : (order : List ℕ) → Safe O Anything (transforms sheet order w)
-  transforms_safe order = bind_safe O (AllValues T) Anything (globals_in sheet w order (undone sheet)) _ (globals_safe order (undone sheet) (undone_sound T sheet.globals)) (λ globals a. root_safe T O sheet globals w x a)
+  transforms_safe order = bind_safe O (AllValues T) Anything (globals_in sheet w order (undone sheet)) _ (globals_safe order (undone sheet) (undone_sound T sheet.globals))
+      (λ globals a. root_safe T O sheet globals w x a)

@@ -81,7 +81,8 @@ module _ (T O : Rows) (sheet : Sheet) (globals : List Value) (w : World) (x : Is
   part_told c p (part.Value e) = text_told c p e
 
   pub template_told : (c : Place) → IsSound T c → (parts : List Part) → Tells O Anything (template_text W c parts)
-  template_told c p parts = bind_tells O (Each Anything) Anything (each_of (part_text W c) parts) _ (each_tells O Anything Anything (part_text W c) parts (each_anything parts) (λ k a. part_told c p k)) (λ texts a. tt)
+  template_told c p parts = bind_tells O (Each Anything) Anything (each_of (part_text W c) parts) _
+      (each_tells O Anything Anything (part_text W c) parts (each_anything parts) (λ k a. part_told c p k)) (λ texts a. tt)
 
   namespace_told : (c : Place) → IsSound T c → (namespace : Option (List Part)) → Tells O Anything (namespace_text W c namespace)
   namespace_told c p None = tt
@@ -110,7 +111,8 @@ module _ (T O : Rows) (sheet : Sheet) (globals : List Value) (w : World) (x : Is
 
   key_told : (c : Place) → IsSound T c → (item : Context) → IsContext T item → (sort : SortDecl) → Tells O Anything (key_at W c item sort)
   key_told c p item i sort =
-      bind_tells O Anything Anything (text_at W (place item c.locals) sort.select) _ (text_told (place item c.locals) (record { locals = p.locals; context = i }) sort.select) (λ text a. key_part_told sort.number text)
+      bind_tells O Anything Anything (text_at W (place item c.locals) sort.select) _ (text_told (place item c.locals) (record { locals = p.locals; context = i }) sort.select)
+      (λ text a. key_part_told sort.number text)
 
   rows_told : (c : Place) → IsSound T c → (sorts : List SortDecl) (z : Size) (at : ℕ) (ns : List ℕ) → Each T ns → Tells O Anything (rows_from W c sorts z at ns)
   rows_told c p sorts z at [] a = tt

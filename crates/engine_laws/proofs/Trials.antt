@@ -49,7 +49,8 @@ int_less x y l = ap (λ b. cond b Less (cond (int_lt y x) Greater Equal)) (true_
 over_first : (j : ℕ) (a : Rule) (k : ℕ) (b : Rule) → StandsOver j a k b → trial_cmp (candidate j a) (candidate k b) ≡ Less
 over_first j a k b (inl l) = ap (λ o. ordering_then o (ordering_then (int_cmp b.priority a.priority) (nat_cmp k j))) (nat_less b.precedence a.precedence l)
 over_first j a k b (inr (e, inl l)) =
-    ap (λ o. ordering_then o (ordering_then (int_cmp b.priority a.priority) (nat_cmp k j))) (tied nat_cmp nat_cmp_total b.precedence a.precedence e) ∙ ap (λ o. ordering_then o (nat_cmp k j)) (int_less b.priority a.priority l)
+    ap (λ o. ordering_then o (ordering_then (int_cmp b.priority a.priority) (nat_cmp k j))) (tied nat_cmp nat_cmp_total b.precedence a.precedence e)
+    ∙ ap (λ o. ordering_then o (nat_cmp k j)) (int_less b.priority a.priority l)
 over_first j a k b (inr (e, inr (f, l))) =
     ap (λ o. ordering_then o (ordering_then (int_cmp b.priority a.priority) (nat_cmp k j))) (tied nat_cmp nat_cmp_total b.precedence a.precedence e)
     ∙ ap (λ o. ordering_then o (nat_cmp k j)) (tied int_cmp int_cmp_total b.priority a.priority f) ∙ nat_less k j l
@@ -57,18 +58,21 @@ over_first j a k b (inr (e, inr (f, l))) =
 -- ---- what all candidates have
 
 module _ (P : Candidate → Type 0) (mode : ℕ) where
-  kept : (c : Candidate) (cs : List Candidate) (b : Bool) → is_of_mode mode c ≡ b → (is_of_mode mode c ≡ true → P c) → Each P (filter (is_of_mode mode) cs) → Each P (cond b (c ∷ filter (is_of_mode mode) cs) (filter (is_of_mode mode) cs))
+  kept : (c : Candidate) (cs : List Candidate) (b : Bool) → is_of_mode mode c ≡ b → (is_of_mode mode c ≡ true → P c) → Each P (filter (is_of_mode mode) cs)
+      → Each P (cond b (c ∷ filter (is_of_mode mode) cs) (filter (is_of_mode mode) cs))
   kept c cs true e p a = (p e, a)
   kept c cs false e p a = a
 
-  all_candidates : (at : ℕ) (rules : List Rule) → ((k : ℕ) (rule : Rule) → slice_get rules k ≡ Some rule → rule.mode ≡ mode → P (candidate (at + k) rule)) → Each P (filter (is_of_mode mode) (candidates_from at rules))
+  all_candidates : (at : ℕ) (rules : List Rule) → ((k : ℕ) (rule : Rule) → slice_get rules k ≡ Some rule → rule.mode ≡ mode → P (candidate (at + k) rule))
+      → Each P (filter (is_of_mode mode) (candidates_from at rules))
   all_candidates at [] h = tt
   all_candidates at (rule ∷ rules) h =
       kept (candidate at rule) (candidates_from (suc at) rules) (is_of_mode mode (candidate at rule)) refl
       (λ m. subst (λ z. P (candidate z rule)) (omega arith) (h 0 rule refl (eqb-true rule.mode mode m)))
       (all_candidates (suc at) rules (λ k r e m. subst (λ z. P (candidate z r)) (omega arith) (h (suc k) r e m)))
 
-  first_kept : (c : Candidate) (cs : List Candidate) (b : Bool) → is_of_mode mode c ≡ b → is_of_mode mode c ≡ true → Each P (cond b (c ∷ filter (is_of_mode mode) cs) (filter (is_of_mode mode) cs)) → P c
+  first_kept : (c : Candidate) (cs : List Candidate) (b : Bool) → is_of_mode mode c ≡ b → is_of_mode mode c ≡ true
+      → Each P (cond b (c ∷ filter (is_of_mode mode) cs) (filter (is_of_mode mode) cs)) → P c
   first_kept c cs true e m a = a.0
   first_kept c cs false e m a = cc
 
@@ -76,12 +80,14 @@ module _ (P : Candidate → Type 0) (mode : ℕ) where
   later_kept c cs true a = a.1
   later_kept c cs false a = a
 
-  at_candidate : (at : ℕ) (rules : List Rule) → Each P (filter (is_of_mode mode) (candidates_from at rules)) → (k : ℕ) (rule : Rule) → slice_get rules k ≡ Some rule → rule.mode ≡ mode → P (candidate (at + k) rule)
+  at_candidate : (at : ℕ) (rules : List Rule) → Each P (filter (is_of_mode mode) (candidates_from at rules)) → (k : ℕ) (rule : Rule) → slice_get rules k ≡ Some rule
+      → rule.mode ≡ mode → P (candidate (at + k) rule)
   at_candidate at [] a k rule e m = cc
   at_candidate at (r ∷ rules) a zero rule e m =
       let same : r ≡ rule = cc in
       subst (λ z. P (candidate z rule)) (omega arith)
-      (subst (λ (z : Rule). P (candidate at z)) same (first_kept (candidate at r) (candidates_from (suc at) rules) (is_of_mode mode (candidate at r)) refl (eq-eqb r.mode mode (ap (λ (z : Rule). z.mode) same ∙ m)) a))
+      (subst (λ (z : Rule). P (candidate at z)) same
+      (first_kept (candidate at r) (candidates_from (suc at) rules) (is_of_mode mode (candidate at r)) refl (eq-eqb r.mode mode (ap (λ (z : Rule). z.mode) same ∙ m)) a))
   at_candidate at (r ∷ rules) a (suc k) rule e m =
       subst (λ z. P (candidate z rule)) (omega arith)
       (at_candidate (suc at) rules (later_kept (candidate at r) (candidates_from (suc at) rules) (is_of_mode mode (candidate at r)) a) k rule e m)
@@ -116,7 +122,8 @@ module _ (R : Reading) (n : ℕ) where
   abbrev answered : Outcome Bool → Candidate → List Candidate → Outcome (Option Candidate)
   answered o d ds = and_then o (λ here. cond here (Known (Some d)) (first_that (matches R n) ds))
 
-  first_by : (P : Candidate → Type 0) (d : Candidate) (ds : List Candidate) (c : Candidate) (o : Outcome Bool) → matches R n d ≡ o → NoneBefore trial_cmp d ds → P d → answered o d ds ≡ Known (Some c) → (first_that (matches R n) ds ≡ Known (Some c) → IsFirst P ds c)
+  first_by : (P : Candidate → Type 0) (d : Candidate) (ds : List Candidate) (c : Candidate) (o : Outcome Bool) → matches R n d ≡ o → NoneBefore trial_cmp d ds → P d
+      → answered o d ds ≡ Known (Some c) → (first_that (matches R n) ds ≡ Known (Some c) → IsFirst P ds c)
       → IsFirst P (d ∷ ds) c
   first_by P d ds c (Known true) m s p f h =
       let same : d ≡ c = cc in
@@ -129,7 +136,8 @@ module _ (R : Reading) (n : ℕ) where
   first_of_all P [] c s a e = cc
   first_of_all P (d ∷ ds) c s a e = first_by P d ds c (matches R n d) refl s.0 a.0 e (first_of_all P ds c s.1 a.1)
 
-  none_in : (d : Candidate) (ds : List Candidate) (o : Outcome Bool) → matches R n d ≡ o → answered o d ds ≡ Known None → (first_that (matches R n) ds ≡ Known None → Each (λ (d : Candidate). matches R n d ≡ Known false) ds) → Each (λ (d : Candidate). matches R n d ≡ Known false) (d ∷ ds)
+  none_in : (d : Candidate) (ds : List Candidate) (o : Outcome Bool) → matches R n d ≡ o → answered o d ds ≡ Known None
+      → (first_that (matches R n) ds ≡ Known None → Each (λ (d : Candidate). matches R n d ≡ Known false) ds) → Each (λ (d : Candidate). matches R n d ≡ Known false) (d ∷ ds)
   none_in d ds (Known true) m f h = cc
   none_in d ds (Known false) m f h = (m, h f)
   none_in d ds (Fault x) m f h = cc
@@ -144,7 +152,8 @@ record IsRule (rules : List Rule) (mode : ℕ) (c : Candidate) : Type 0 where
   there : slice_get rules c.place ≡ Some c.rule
   of_mode : c.rule.mode ≡ mode
 
-found_by : (o : Outcome (Option Candidate)) (place : ℕ) → and_then o (λ found. Known (option_map (λ (c : Candidate). c.place) found)) ≡ Known (Some place) → (c : Candidate) × (o ≡ Known (Some c)) × (c.place ≡ place)
+found_by : (o : Outcome (Option Candidate)) (place : ℕ) → and_then o (λ found. Known (option_map (λ (c : Candidate). c.place) found)) ≡ Known (Some place)
+    → (c : Candidate) × (o ≡ Known (Some c)) × (c.place ≡ place)
 found_by (Known None) place e = cc
 found_by (Known (Some c)) place e = (c, refl, cc)
 found_by (Fault x) place e = cc
@@ -159,7 +168,8 @@ none_by (Open x) e = cc
 pub chosen_first : (R : Reading) (rules : List Rule) (mode n place : ℕ) → choice_of R rules mode n ≡ Known (Some place) → IsChoice R rules mode n place
 chosen_first R rules mode n place e =
     let f = found_by (first_that (matches R n) (tried rules mode)) place e in
-    let w = first_of_all R n (IsRule rules mode) (tried rules mode) (f.0) (tried_ascends rules mode) (each_tried (IsRule rules mode) mode rules (λ k rule i m. record { there = i; of_mode = m })) f.1 in
+    let w = first_of_all R n (IsRule rules mode) (tried rules mode) (f.0) (tried_ascends rules mode)
+    (each_tried (IsRule rules mode) mode rules (λ k rule i m. record { there = i; of_mode = m })) f.1 in
     record {
       rule = f.0.rule;
       there = subst (λ z. slice_get rules z ≡ Some f.0.rule) f.2 w.has.there;

@@ -63,7 +63,8 @@ shown_below : (nodes : List Node) (marks : List Mark) (n : Node) (r k v : ℕ) �
 unfolding node_shown
 shown_below nodes marks n r k v h f = all_at (is_below nodes marks r) n.names k v h f
 
-shown_nearer : (nodes : List Node) (marks : List Mark) (n : Node) (d : ℕ) → node_shown nodes marks n (mark.Stuck d) ≡ true → (k : ℕ) × (v : ℕ) × (slice_get n.names k ≡ Some v) × (is_nearer nodes marks d v ≡ true)
+shown_nearer : (nodes : List Node) (marks : List Mark) (n : Node) (d : ℕ) → node_shown nodes marks n (mark.Stuck d) ≡ true
+    → (k : ℕ) × (v : ℕ) × (slice_get n.names k ≡ Some v) × (is_nearer nodes marks d v ≡ true)
 unfolding node_shown
 shown_nearer nodes marks n d h = any_at (is_nearer nodes marks d) n.names h
 
@@ -73,7 +74,8 @@ needy_there nodes v h (itself (names n e k f) g) = (n, e)
 needy_there nodes v h (through (names n e k f) g m) = (n, e)
 
 -- what is below a rank where a node is
-below_at : (nodes : List Node) (marks : List Mark) (r v : ℕ) (n : Node) → slice_get nodes v ≡ Some n → is_below nodes marks r v ≡ true → (s : ℕ) × (slice_get marks v ≡ Some (mark.Ready s)) × (s ≤ r) × (n.is_global ≡ true → s < r)
+below_at : (nodes : List Node) (marks : List Mark) (r v : ℕ) (n : Node) → slice_get nodes v ≡ Some n → is_below nodes marks r v ≡ true
+    → (s : ℕ) × (slice_get marks v ≡ Some (mark.Ready s)) × (s ≤ r) × (n.is_global ≡ true → s < r)
 unfolding is_below
 below_at nodes marks r v n e h = below_is n.is_global r (slice_get marks v) (subst (λ o. named_below o r (slice_get marks v) ≡ true) e h)
 
@@ -85,10 +87,12 @@ global_test : (nodes : List Node) (v : ℕ) → IsGlobal nodes v → is_global n
 unfolding is_global
 global_test nodes v (one n e g) = ap global_node e ∙ g
 
-needs_itself : (nodes : List Node) (marks : List Mark) (u h r : ℕ) → AreProof nodes marks → slice_get marks u ≡ Some (mark.Ready r) → Names nodes u h → IsGlobal nodes h → (s : ℕ) × (slice_get marks h ≡ Some (mark.Ready s)) × (s < r)
+needs_itself : (nodes : List Node) (marks : List Mark) (u h r : ℕ) → AreProof nodes marks → slice_get marks u ≡ Some (mark.Ready r) → Names nodes u h → IsGlobal nodes h
+    → (s : ℕ) × (slice_get marks h ≡ Some (mark.Ready s)) × (s < r)
 needs_itself nodes marks u h r p m e (one n i g) = let b = below_at nodes marks r h n i (name_below nodes marks u h r p m e) in (b.0, b.1, b.3 g)
 
-needs_below : (nodes : List Node) (marks : List Mark) (u h r : ℕ) → AreProof nodes marks → slice_get marks u ≡ Some (mark.Ready r) → Needs nodes u h → (s : ℕ) × (slice_get marks h ≡ Some (mark.Ready s)) × (s < r)
+needs_below : (nodes : List Node) (marks : List Mark) (u h r : ℕ) → AreProof nodes marks → slice_get marks u ≡ Some (mark.Ready r) → Needs nodes u h
+    → (s : ℕ) × (slice_get marks h ≡ Some (mark.Ready s)) × (s < r)
 needs_below nodes marks u h r p m (itself e g) = needs_itself nodes marks u h r p m e g
 needs_below nodes marks u h r p m (through {v = v} e g n) =
     let t = needy_there nodes v h n in
@@ -104,7 +108,8 @@ pub shown_ready : (nodes : List Node) (marks : List Mark) (u r : ℕ) → ArePro
 shown_ready nodes marks u r p m = ready_within nodes marks (suc r) u r (omega arith) p m
 
 -- a node with a stuck mark names a global with one, or a node that is nearer to one
-named_nearer : (nodes : List Node) (marks : List Mark) (u d : ℕ) → AreProof nodes marks → slice_get marks u ≡ Some (mark.Stuck d) → (v : ℕ) × (e : ℕ) × Names nodes u v × (slice_get marks v ≡ Some (mark.Stuck e)) × ((is_global nodes v ≡ true) ⊎ (e < d))
+named_nearer : (nodes : List Node) (marks : List Mark) (u d : ℕ) → AreProof nodes marks → slice_get marks u ≡ Some (mark.Stuck d)
+    → (v : ℕ) × (e : ℕ) × Names nodes u v × (slice_get marks v ≡ Some (mark.Stuck e)) × ((is_global nodes v ≡ true) ⊎ (e < d))
 unfolding is_nearer
 named_nearer nodes marks u d p m =
     let i = p.stands u (mark.Stuck d) m in
@@ -116,7 +121,8 @@ named_nearer nodes marks u d p m =
 Stuck_needs : List Node → List Mark → ℕ → Type 0
 Stuck_needs nodes marks u = (h : ℕ) × (e : ℕ) × Needs nodes u h × (slice_get marks h ≡ Some (mark.Stuck e))
 
-by_test : (nodes : List Node) (marks : List Mark) (u v e : ℕ) (b : Bool) → is_global nodes v ≡ b → Names nodes u v → slice_get marks v ≡ Some (mark.Stuck e) → (b ≡ false → Stuck_needs nodes marks v) → Stuck_needs nodes marks u
+by_test : (nodes : List Node) (marks : List Mark) (u v e : ℕ) (b : Bool) → is_global nodes v ≡ b → Names nodes u v → slice_get marks v ≡ Some (mark.Stuck e)
+    → (b ≡ false → Stuck_needs nodes marks v) → Stuck_needs nodes marks u
 unfolding Stuck_needs
 by_test nodes marks u v e true t n m f = (v, e, itself n (yes_global nodes v t), m)
 by_test nodes marks u v e false t n m f = let s = f refl in (s.0, s.1, through n (no_global nodes v t) s.2, s.3)
@@ -129,7 +135,8 @@ needs_within : (nodes : List Node) (marks : List Mark) (k u d : ℕ) → d < k �
 needs_within nodes marks zero u d l p m = absurd (omega arith)
 needs_within nodes marks (suc k) u d l p m =
     let a = named_nearer nodes marks u d p m in
-    by_test nodes marks u a.0 a.1 (is_global nodes a.0) refl a.2 a.3 (λ f. let less = nearer_where (is_global nodes a.0) a.1 d a.4 f in needs_within nodes marks k a.0 a.1 (let i : a.1 < k = omega arith in i) p a.3)
+    by_test nodes marks u a.0 a.1 (is_global nodes a.0) refl a.2 a.3
+    (λ f. let less = nearer_where (is_global nodes a.0) a.1 d a.4 f in needs_within nodes marks k a.0 a.1 (let i : a.1 < k = omega arith in i) p a.3)
 
 -- and never becomes ready
 pub shown_stuck : (nodes : List Node) (marks : List Mark) (g d : ℕ) → AreProof nodes marks → slice_get marks g ≡ Some (mark.Stuck d) → Ready nodes g → ⊥
@@ -167,12 +174,14 @@ stuck_mark None h = cc
 stuck_mark (Some (mark.Ready r)) h = cc
 stuck_mark (Some (mark.Stuck d)) h = (d, refl)
 
-pub circle : (nodes : List Node) (marks : List Mark) (g : ℕ) → AreProof nodes marks → length nodes ≡ length marks → is_stuck_global nodes marks g ≡ true → ((u : ℕ) → u < g → is_stuck_global nodes marks u ≡ false) → IsCircle nodes g
+pub circle : (nodes : List Node) (marks : List Mark) (g : ℕ) → AreProof nodes marks → length nodes ≡ length marks → is_stuck_global nodes marks g ≡ true
+    → ((u : ℕ) → u < g → is_stuck_global nodes marks u ≡ false) → IsCircle nodes g
 unfolding is_stuck_global
 circle nodes marks g p l h k =
     let b = both (is_global nodes g) (is_stuck (slice_get marks g)) h in
     let d = stuck_mark (slice_get marks g) b.1 in
     record { is = yes_global nodes g b.0; never = shown_stuck nodes marks g d.0 p d.1; before = λ u i t. not_stuck nodes marks u p l (k u i) t }
 
-pub all_ready : (nodes : List Node) (marks : List Mark) → AreProof nodes marks → length nodes ≡ length marks → ((u : ℕ) → u < length marks → is_stuck_global nodes marks u ≡ false) → (g : ℕ) → IsGlobal nodes g → Ready nodes g
+pub all_ready : (nodes : List Node) (marks : List Mark) → AreProof nodes marks → length nodes ≡ length marks → ((u : ℕ) → u < length marks → is_stuck_global nodes marks u ≡ false)
+    → (g : ℕ) → IsGlobal nodes g → Ready nodes g
 all_ready nodes marks p l k g (one n e t) = let w = within nodes g n e in not_stuck nodes marks g p l (k g (omega arith)) (one n e t)

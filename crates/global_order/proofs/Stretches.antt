@@ -79,7 +79,8 @@ plus (x ∷ xs) y = let r = plus xs y in omega (arith, r)
 pub none_stand : (nodes : List Node) (moments : List Moment) (order starts : List ℕ) → starts ≡ [] → StandTo nodes moments order starts 0
 none_stand nodes moments order starts e = subst (λ s. StandTo nodes moments order s 0) (sym e) (record { known = refl; less = λ j s i. cc; stand = λ j l. absurd (omega (arith, l)) })
 
-pub one_more_stands : (nodes : List Node) (moments : List Moment) (order starts later : List ℕ) (at global from : ℕ) → StandTo nodes moments order starts at → slice_get order at ≡ Some global → AreLess order from at → Stands nodes moments global at from
+pub one_more_stands : (nodes : List Node) (moments : List Moment) (order starts later : List ℕ) (at global from : ℕ) → StandTo nodes moments order starts at
+    → slice_get order at ≡ Some global → AreLess order from at → Stands nodes moments global at from
     → later ≡ starts ++ from ∷ [] → StandTo nodes moments order later (at + 1)
 one_more_stands nodes moments order starts later at global from s e a w l = subst (λ z. StandTo nodes moments order z (at + 1)) (sym l) (record {
   known = let k = s.known in let p = plus starts from in omega (arith, k, p);
@@ -89,6 +90,7 @@ one_more_stands nodes moments order starts later at global from s e a w l = subs
   ];
   stand = λ j b. elim (cases_lt j at) [
     | inl o ↦ s.stand j o
-    | inr o ↦ let q : at ≡ j = omega (arith, o, b) in subst (λ y. StandsAt nodes moments order y) q (record { from = from; less = a; stands = λ g f. let r : global ≡ g = cc in subst (λ y. Stands nodes moments y at from) r w })
+    | inr o ↦ let q : at ≡ j = omega (arith, o, b) in subst (λ y. StandsAt nodes moments order y) q
+        (record { from = from; less = a; stands = λ g f. let r : global ≡ g = cc in subst (λ y. Stands nodes moments y at from) r w })
   ];
 })

@@ -27,7 +27,9 @@ module _ (nodes : List Node) (moments : List Moment) (order : List ℕ) (t : Are
   in_time_at : (time v : ℕ) (n : Node) (m : Moment) → slice_get nodes v ≡ Some n → slice_get moments v ≡ Some m → is_in_time nodes moments time v ≡ true → done_by n.is_global m ≤ time
   unfolding is_in_time
   in_time_at time v n m e i h =
-      let s : nat_le (done_by n.is_global m) time ≡ true = subst (λ o. with_moment (Some n) o true (λ n m. nat_le (done_by n.is_global m) time) ≡ true) i (subst (λ o. with_moment o (slice_get moments v) true (λ n m. nat_le (done_by n.is_global m) time) ≡ true) e h) in
+      let s : nat_le (done_by n.is_global m) time ≡ true =
+      subst (λ o. with_moment (Some n) o true (λ n m. nat_le (done_by n.is_global m) time) ≡ true) i
+      (subst (λ o. with_moment o (slice_get moments v) true (λ n m. nat_le (done_by n.is_global m) time) ≡ true) e h) in
       grind (arith, nat_tests)
 
   name_in_time : (u v : ℕ) (n : Node) (m : Moment) → slice_get nodes u ≡ Some n → slice_get moments u ≡ Some m → Names nodes u v → is_in_time nodes moments m.time v ≡ true
@@ -56,17 +58,23 @@ module _ (nodes : List Node) (moments : List Moment) (order : List ℕ) (t : Are
       not_global : (v : ℕ) (y : Node) → slice_get nodes v ≡ Some y → (IsGlobal nodes v → ⊥) → y.is_global ≡ false
       not_global v y e g = by_bool y.is_global (λ b. g (one y e b))
 
-  last_at : (time names' v : ℕ) → is_last nodes moments time names' v ≡ true → (w : Timed nodes moments v) × (done_by w.node.is_global w.moment ≡ time) × ((w.node.is_global ≡ true) ⊎ (w.moment.names < names'))
+  last_at : (time names' v : ℕ) → is_last nodes moments time names' v ≡ true
+      → (w : Timed nodes moments v) × (done_by w.node.is_global w.moment ≡ time) × ((w.node.is_global ≡ true) ⊎ (w.moment.names < names'))
   unfolding is_last
   last_at time names' v h = by_options (slice_get nodes v) (slice_get moments v) refl refl h
     where
-      by_options : (o : Option Node) (p : Option Moment) → slice_get nodes v ≡ o → slice_get moments v ≡ p → with_moment o p false (λ n m. done_by n.is_global m == time && (n.is_global || nat_lt m.names names')) ≡ true
+      by_options : (o : Option Node) (p : Option Moment) → slice_get nodes v ≡ o → slice_get moments v ≡ p
+          → with_moment o p false (λ n m. done_by n.is_global m == time && (n.is_global || nat_lt m.names names')) ≡ true
           → (w : Timed nodes moments v) × (done_by w.node.is_global w.moment ≡ time) × ((w.node.is_global ≡ true) ⊎ (w.moment.names < names'))
       by_options None p e f h = cc
       by_options (Some n) None e f h = cc
       by_options (Some n) (Some m) e f h =
-          let b = both _ _ h in
-          (record { node = n; moment = m; is_node = e; is_moment = f }, eqb-true (done_by n.is_global m) time b.0, elim (either _ _ b.1) [ inl g ↦ inl g | inr l ↦ inr (let k : m.names < names' = grind (arith, nat_tests) in k) ])
+          let b = both _ _ h in (
+            record { node = n; moment = m; is_node = e; is_moment = f },
+            eqb-true (done_by n.is_global m) time b.0,
+            elim (either _ _ b.1)
+                [ inl g ↦ inl g | inr l ↦ inr (let k : m.names < names' = grind (arith, nat_tests) in k) ],
+          )
 
   one_last : (u : ℕ) (n : Node) (m : Moment) → slice_get nodes u ≡ Some n → slice_get moments u ≡ Some m → 0 < m.time → (v : ℕ) × Names nodes u v × (is_last nodes moments m.time m.names v ≡ true)
   unfolding is_timed
@@ -82,7 +90,8 @@ module _ (nodes : List Node) (moments : List Moment) (order : List ℕ) (t : Are
   no_global : (v : ℕ) (w : Timed nodes moments v) → w.node.is_global ≡ false → IsGlobal nodes v → ⊥
   no_global v w f (one n e t) = let i = w.is_node in let q : n ≡ w.node = cc in let r : n.is_global ≡ w.node.is_global = ap (λ (z : Node). z.is_global) q in cc
 
-  by_global : (bound u v : ℕ) (m : Moment) → m.names < suc bound → 0 < m.time → Names nodes u v → (w : Timed nodes moments v) (g : Bool) → w.node.is_global ≡ g → done_by w.node.is_global w.moment ≡ m.time → ((w.node.is_global ≡ true) ⊎ (w.moment.names < m.names))
+  by_global : (bound u v : ℕ) (m : Moment) → m.names < suc bound → 0 < m.time → Names nodes u v → (w : Timed nodes moments v) (g : Bool) → w.node.is_global ≡ g
+      → done_by w.node.is_global w.moment ≡ m.time → ((w.node.is_global ≡ true) ⊎ (w.moment.names < m.names))
       → (w.moment.names < bound → 0 < w.moment.time → LastNeeded v w.moment.time) → LastNeeded u m.time
   by_global bound u v m b l f w true g d c r = (v, itself f (one w.node w.is_node g), w.moment, w.is_moment, subst (λ b. done_by b w.moment ≡ m.time) g d)
   by_global bound u v m b l f w false g d c r =

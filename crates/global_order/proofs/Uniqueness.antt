@@ -62,7 +62,8 @@ same_next nodes order other k g h o p a e f = elim (cases_lt g h) [
   ]
 ]
 
-here_too : (nodes : List Node) (order other : List ℕ) (k : ℕ) → IsOrder nodes order → IsOrder nodes other → Agree order other k → (x y : Option ℕ) → slice_get order k ≡ x → slice_get other k ≡ y → x ≡ y
+here_too : (nodes : List Node) (order other : List ℕ) (k : ℕ) → IsOrder nodes order → IsOrder nodes other → Agree order other k → (x y : Option ℕ) → slice_get order k ≡ x
+    → slice_get other k ≡ y → x ≡ y
 here_too nodes order other k o p a None None e f = refl
 here_too nodes order other k o p a None (Some h) e f = absurd (ends_too nodes other order k h p o (turned order other k a) f e)
 here_too nodes order other k o p a (Some g) None e f = absurd (ends_too nodes order other k g o p a e f)

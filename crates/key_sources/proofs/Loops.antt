@@ -22,7 +22,8 @@ pub leaves_start : {M A : Type 0} {lookups : Lookups} {s t : Seen M} {left whole
 leaves_start m e = record { rest = λ u result n a. says_after m (says_same e a) }
 
 -- what is left in other words
-pub leaves_same : {M A : Type 0} {lookups : Lookups} {s t : Seen M} {left other whole : Reading → Outcome A} → ((R : Reading) → left R ≡ other R) → Leaves lookups s t left whole → Leaves lookups s t other whole
+pub leaves_same : {M A : Type 0} {lookups : Lookups} {s t : Seen M} {left other whole : Reading → Outcome A} → ((R : Reading) → left R ≡ other R) → Leaves lookups s t left whole
+    → Leaves lookups s t other whole
 leaves_same e w = record { rest = λ u result n a. w.rest u result n (says_same e a) }
 
 -- a part is known
@@ -40,7 +41,8 @@ pub leaves_fails : {M A B : Type 0} {lookups : Lookups} {s t u : Seen M} {left w
     → Leaves lookups s t left whole → ((R : Reading) → left R ≡ (outcome >>= next R)) → Moves t u → Gives outcome (Err e) → Says {A = A} lookups whole s u (Err e)
 leaves_fails {e = e} outcome next w h m g = leaves_stops next w h m (says_given outcome (Err e) m g)
 
-pub leaves_end : {M A : Type 0} {lookups : Lookups} {s t u : Seen M} {left whole : Reading → Outcome A} {x : A} → Leaves lookups s t left whole → Moves t u → ((R : Reading) → left R ≡ answer.Known x) → Says lookups whole s u (Ok x)
+pub leaves_end : {M A : Type 0} {lookups : Lookups} {s t u : Seen M} {left whole : Reading → Outcome A} {x : A} → Leaves lookups s t left whole → Moves t u
+    → ((R : Reading) → left R ≡ answer.Known x) → Says lookups whole s u (Ok x)
 leaves_end {u = u} {x = x} w m e = w.rest u (Ok x) m (says_known e)
 
 pub leaves_memory : {M A : Type 0} {lookups : Lookups} {s t u : Seen M} {left whole : Reading → Outcome A} → Leaves lookups s t left whole → Moves t u → Says {A = A} lookups whole s u (Err Memory)
@@ -55,12 +57,14 @@ says_under {M = M} {A = A} {B = B} {lookups = lookups} {means} {left} {other} {s
     at steps = reading_by lookups u.rules steps
 
     known : (steps : List Step) → Grows t.steps steps → IsLawful steps → means (at steps) ≡ answer.Known x
-    known steps g l = known_later (λ p. means (at p)) t.steps steps x (lasts means k lookups u.rules) g l (subst (λ rules. means (reading_by lookups rules t.steps) ≡ answer.Known x) (sym m.rules_stay) a.answers)
+    known steps g l = known_later (λ p. means (at p)) t.steps steps x (lasts means k lookups u.rules) g l
+        (subst (λ rules. means (reading_by lookups rules t.steps) ≡ answer.Known x) (sym m.rules_stay) a.answers)
 
     same : (steps : List Step) → Grows t.steps steps → IsLawful steps → other (at steps) ≡ left (at steps)
     same steps g l = h (at steps) (known steps g l)
 
-    by : (r : Result B EvalStop) → answer.Answers stop_of (λ rules steps. left (reading_by lookups rules steps)) t u r → answer.Answers stop_of (λ rules steps. other (reading_by lookups rules steps)) t u r
+    by : (r : Result B EvalStop) → answer.Answers stop_of (λ rules steps. left (reading_by lookups rules steps)) t u r
+        → answer.Answers stop_of (λ rules steps. other (reading_by lookups rules steps)) t u r
     by (Ok y) e = same u.steps m.grows m.seen.lawful ∙ e
     by (Err (Fault fault)) e = same u.steps m.grows m.seen.lawful ∙ e
     by (Err (NotYet row)) e = (e.0, e.1, e.2, same (e.0) e.1 (lawful_before (e.0) u.steps e.2 m.seen.lawful) ∙ e.3)

@@ -86,14 +86,17 @@ says_as {lookups = lookups} {means} {other} {s} {t} {result} e a = record {
   answers = as_means stop_of (λ rules steps. means (reading_by lookups rules steps)) (λ rules steps. other (reading_by lookups rules steps)) s t result e a.answers;
 }
 
-pub says_same : {M A : Type 0} {lookups : Lookups} {means other : Reading → Outcome A} {s t : Seen M} {result : Result A EvalStop} → ((R : Reading) → other R ≡ means R) → Says lookups means s t result → Says lookups other s t result
+pub says_same : {M A : Type 0} {lookups : Lookups} {means other : Reading → Outcome A} {s t : Seen M} {result : Result A EvalStop} → ((R : Reading) → other R ≡ means R)
+    → Says lookups means s t result → Says lookups other s t result
 says_same {lookups = lookups} e a = says_as (λ rules steps. e (reading_by lookups rules steps)) a
 
 -- a call that comes after others, and one that comes before others
-pub says_after : {M A : Type 0} {lookups : Lookups} {means : Reading → Outcome A} {s t u : Seen M} {result : Result A EvalStop} → Moves s t → Says lookups means t u result → Says lookups means s u result
+pub says_after : {M A : Type 0} {lookups : Lookups} {means : Reading → Outcome A} {s t u : Seen M} {result : Result A EvalStop} → Moves s t → Says lookups means t u result
+    → Says lookups means s u result
 says_after {lookups = lookups} {means} {s} {t} {u} {result} m a = record { answers = after_moves stop_of (λ rules steps. means (reading_by lookups rules steps)) s t u result m a.answers }
 
-pub says_before : {M A : Type 0} {lookups : Lookups} {means : Reading → Outcome A} {s t u : Seen M} {result : Result A EvalStop} → Keeps means → Moves t u → Says lookups means s t result → Says lookups means s u result
+pub says_before : {M A : Type 0} {lookups : Lookups} {means : Reading → Outcome A} {s t u : Seen M} {result : Result A EvalStop} → Keeps means → Moves t u
+    → Says lookups means s t result → Says lookups means s u result
 says_before {lookups = lookups} {means} {s} {t} {u} {result} k m a = record {
   answers = before_moves stop_of (λ rules steps. means (reading_by lookups rules steps)) s t u result (lasts means k lookups) m a.answers;
 }
@@ -102,21 +105,25 @@ says_before {lookups = lookups} {means} {s} {t} {u} {result} k m a = record {
 pub says_then : {M A B : Type 0} {lookups : Lookups} {means : Reading → Outcome A} {s t u : Seen M} {x : A} {result : Result B EvalStop} (rest : Reading → A → Outcome B)
     → Keeps means → Moves s t → Says lookups means s t (Ok x) → Moves t u → Says lookups (λ R. rest R x) t u result → Says lookups (λ R. means R >>= rest R) s u result
 says_then {lookups = lookups} {means} {s} {t} {u} {x} {result} rest k m a n b = record {
-  answers = then_answers stop_of (λ rules steps. means (reading_by lookups rules steps)) (λ rules steps. rest (reading_by lookups rules steps)) s t u x result (lasts means k lookups) m n a.answers b.answers;
+  answers = then_answers stop_of (λ rules steps. means (reading_by lookups rules steps)) (λ rules steps. rest (reading_by lookups rules steps)) s t u x result
+      (lasts means k lookups) m n a.answers b.answers;
 }
 
 -- the first part stops, and so does the whole
-pub says_stops : {M A B : Type 0} {lookups : Lookups} {means : Reading → Outcome A} {s t : Seen M} {e : EvalStop} (rest : Reading → A → Outcome B) → Says {A = A} lookups means s t (Err e) → Says {A = B} lookups (λ R. means R >>= rest R) s t (Err e)
+pub says_stops : {M A B : Type 0} {lookups : Lookups} {means : Reading → Outcome A} {s t : Seen M} {e : EvalStop} (rest : Reading → A → Outcome B)
+    → Says {A = A} lookups means s t (Err e) → Says {A = B} lookups (λ R. means R >>= rest R) s t (Err e)
 says_stops {lookups = lookups} {means} {s} {t} {e} rest a = record {
   answers = first_stops stop_of (λ rules steps. means (reading_by lookups rules steps)) (λ rules steps. rest (reading_by lookups rules steps)) s t e a.answers;
 }
 
 -- the exit of a `?`
-pub says_exit : {M A : Type 0} {lookups : Lookups} {means : Reading → Outcome A} {s t : Seen M} {e : EvalStop} (result : Result A EvalStop) → IsErrAnd result (λ d. d ≡ e) → Says lookups means s t (Err e) → Says lookups means s t result
+pub says_exit : {M A : Type 0} {lookups : Lookups} {means : Reading → Outcome A} {s t : Seen M} {e : EvalStop} (result : Result A EvalStop) → IsErrAnd result (λ d. d ≡ e)
+    → Says lookups means s t (Err e) → Says lookups means s t result
 says_exit {lookups = lookups} {means} {s} {t} (Err d) is a = subst (λ d. Says lookups means s t (Err d)) (sym is) a
 says_exit (Ok x) is a = absurd is
 
-pub says_failed : {M A B : Type 0} {lookups : Lookups} {means : Reading → Outcome A} {s t : Seen M} {e : EvalStop} (rest : Reading → A → Outcome B) (result : Result B EvalStop) → IsErrAnd result (λ d. d ≡ e)
+pub says_failed : {M A B : Type 0} {lookups : Lookups} {means : Reading → Outcome A} {s t : Seen M} {e : EvalStop} (rest : Reading → A → Outcome B) (result : Result B EvalStop)
+    → IsErrAnd result (λ d. d ≡ e)
     → Says {A = A} lookups means s t (Err e) → Says lookups (λ R. means R >>= rest R) s t result
 says_failed rest result is a = says_exit result is (says_stops rest a)
 
@@ -128,7 +135,8 @@ says_memory = record { answers = tt }
 pub says_known : {M A : Type 0} {lookups : Lookups} {means : Reading → Outcome A} {s t : Seen M} {x : A} → ((R : Reading) → means R ≡ answer.Known x) → Says lookups means s t (Ok x)
 says_known {lookups = lookups} {t = t} e = record { answers = e (reading_by lookups t.rules t.steps) }
 
-pub says_fault : {M A : Type 0} {lookups : Lookups} {means : Reading → Outcome A} {s t : Seen M} {fault : FaultKind} → ((R : Reading) → means R ≡ answer.Fault fault) → Says lookups means s t (Err (Fault fault))
+pub says_fault : {M A : Type 0} {lookups : Lookups} {means : Reading → Outcome A} {s t : Seen M} {fault : FaultKind} → ((R : Reading) → means R ≡ answer.Fault fault)
+    → Says lookups means s t (Err (Fault fault))
 says_fault {lookups = lookups} {t = t} e = record { answers = e (reading_by lookups t.rules t.steps) }
 
 -- a part that sees no document

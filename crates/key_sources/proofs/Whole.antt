@@ -24,7 +24,8 @@ whole_open lookups rules steps e = ap (λ b. with_faults {F = FaultKind} (cond b
 abbrev shut_or : {A : Type 0} → Bool → A → Answer ⊥ A
 shut_or b x = cond b (Open 0) (Known x)
 
-once : {A B : Type 0} (b : Bool) (x : A) (y : B) (f : A → Outcome B) → f x ≡ Known y → (with_faults {F = FaultKind} {A = A} (shut_or b x) >>= f) ≡ (with_faults {F = FaultKind} {A = Unit {0}} (shut_or b tt) >>= λ shut. Known y)
+once : {A B : Type 0} (b : Bool) (x : A) (y : B) (f : A → Outcome B) → f x ≡ Known y
+    → (with_faults {F = FaultKind} {A = A} (shut_or b x) >>= f) ≡ (with_faults {F = FaultKind} {A = Unit {0}} (shut_or b tt) >>= λ shut. Known y)
 once true x y f e = refl
 once false x y f e = e
 
@@ -40,7 +41,8 @@ pub no_key : (rules : List StripRule) (steps : List Step) (key : ℕ) (value : L
 unfolding reading_of
 no_key rules steps key value =
     let rows = visible_rows rules (rows_of steps) in
-    once (is_open steps 0) rows [] (λ ns. kept_from 0 (λ at n. has_string (reading_without_keys rules None steps) (declarations [] key) value n) ns) (none_kept (reading_without_keys rules None steps) value 0 rows)
+    once (is_open steps 0) rows [] (λ ns. kept_from 0 (λ at n. has_string (reading_without_keys rules None steps) (declarations [] key) value n) ns)
+    (none_kept (reading_without_keys rules None steps) value 0 rows)
 
 pub no_id : (rules : List StripRule) (steps : List Step) (value : List ℕ) → (reading_of rules [] None steps).by_id value ≡ ((reading_of rules [] None steps).whole >>= λ shut. Known [])
 unfolding reading_of

@@ -37,7 +37,9 @@ Due limits lines later due = (rest : List Step) × (due ++ rest ≡ steps_from l
 due_line : (limits : Limits) (lines : List Line) (line : Line) (later : List (Result Line Refusal)) → Due limits lines (Ok line ∷ later) (line_steps limits lines line)
 due_line limits lines line later = by_flaw (line_flaw limits false lines line)
   where
-    by_flaw : (flaw : Option Flaw) → (rest : List Step) × ((if is_none flaw then steps_of_events (line_events lines line) else []) ++ rest ≡ bad_or flaw (steps_of_events (line_events lines line) ++ steps_from limits (line ∷ lines) later))
+    by_flaw : (flaw : Option Flaw)
+        → (rest : List Step) × ((if is_none flaw then steps_of_events (line_events lines line) else []) ++ rest
+        ≡ bad_or flaw (steps_of_events (line_events lines line) ++ steps_from limits (line ∷ lines) later))
     by_flaw None = (steps_from limits (line ∷ lines) later, refl)
     by_flaw (Some flaw) = (End (Bad flaw) ∷ [], refl)
 
@@ -54,12 +56,14 @@ starves : (limits : Limits) (told : Option (List ℕ)) (lines : List Line) (due 
     → IfSome told (λ bytes. (later : List (Result Line Refusal)) × (Begins limits bytes lines later × Due limits lines later due)) → EndsStarved due old new → Starves limits told old new
 starves limits told lines due old new f from comes ends = record { made = ends.0; steps = ends.3; due = by_told told comes }
   where
-    by_told : (told : Option (List ℕ)) → IfSome told (λ bytes. (later : List (Result Line Refusal)) × (Begins limits bytes lines later × Due limits lines later due)) → IfSome told (λ bytes. (rest : List Step) × ((old ++ ends.0) ++ rest ≡ steps_of limits bytes))
+    by_told : (told : Option (List ℕ)) → IfSome told (λ bytes. (later : List (Result Line Refusal)) × (Begins limits bytes lines later × Due limits lines later due))
+        → IfSome told (λ bytes. (rest : List Step) × ((old ++ ends.0) ++ rest ≡ steps_of limits bytes))
     by_told None it = tt
     by_told (Some bytes) it = starved_at limits bytes lines it.0 due old ends.0 ends.1 it.1.0 it.1.1 from ends.2
 
 -- a line was read
-pub line_fed : BeginsSources → (limits : Limits) (told left : Option (List ℕ)) (lines : List Line) (line : Line) (old new : List Step) (fed : Fed) → AreFlawless limits lines → old ≡ steps_of_events (events_to lines)
+pub line_fed : BeginsSources → (limits : Limits) (told left : Option (List ℕ)) (lines : List Line) (line : Line) (old new : List Step) (fed : Fed) → AreFlawless limits lines
+    → old ≡ steps_of_events (events_to lines)
     → ComesNext told lines (Ok line) → LineIs limits lines line old new fed → FeedIs limits told left lines old new fed
 line_fed law limits told left lines line old new Fed_Line f from comes is = tt
 line_fed law limits told left lines line old new Ended f from comes is = absurd is
@@ -71,7 +75,8 @@ line_fed law limits told left lines line old new (Flawed flaw) f from comes is =
 line_fed law limits told left lines line old new Failed f from comes is = absurd is
 line_fed law limits told left lines line old new Memory f from comes is = starves limits told lines (line_steps limits lines line) old new f from (by_told told comes) is
   where
-    by_told : (told : Option (List ℕ)) → ComesNext told lines (Ok line) → IfSome told (λ bytes. (later : List (Result Line Refusal)) × (Begins limits bytes lines later × Due limits lines later (line_steps limits lines line)))
+    by_told : (told : Option (List ℕ)) → ComesNext told lines (Ok line)
+        → IfSome told (λ bytes. (later : List (Result Line Refusal)) × (Begins limits bytes lines later × Due limits lines later (line_steps limits lines line)))
     by_told None it = tt
     by_told (Some bytes) it = (Ok line ∷ it.0, (begins law limits bytes lines (Ok line ∷ it.0) it.1 f, due_line limits lines line it.0))
 
@@ -97,7 +102,8 @@ end_fed law limits told left lines old new Memory f from comes end is = starves 
     by_told (Some bytes) it = ([], (begins law limits bytes lines [] it f, due_none limits lines []))
 
 -- the reader refused a line
-refused : BeginsSources → (limits : Limits) (told left : Option (List ℕ)) (lines : List Line) (refusal : Refusal) (kind : FlawKind) (line : ℕ) (old new : List Step) → AreFlawless limits lines → old ≡ steps_of_events (events_to lines)
+refused : BeginsSources → (limits : Limits) (told left : Option (List ℕ)) (lines : List Line) (refusal : Refusal) (kind : FlawKind) (line : ℕ) (old new : List Step)
+    → AreFlawless limits lines → old ≡ steps_of_events (events_to lines)
     → kind_of refusal ≡ kind → line ≡ length lines + 1 → ComesNext told lines (Err refusal) → new ≡ old ++ End (Bad (record { line = line; kind = kind })) ∷ []
     → FeedIs limits told left lines old new (Flawed (record { line = line; kind = kind }))
 refused law limits told left lines refusal kind line old new f from spelled at comes to = record { steps = to; whole = by_told told comes }
@@ -107,9 +113,11 @@ refused law limits told left lines refusal kind line old new f from spelled at c
 
     by_told : (told : Option (List ℕ)) → ComesNext told lines (Err refusal) → IfSome told (λ bytes. IsWhole limits bytes lines (Some (record { line = line; kind = kind })) new)
     by_told None it = tt
-    by_told (Some bytes) it = whole_refusal limits bytes lines refusal it.0 (record { line = line; kind = kind }) old new (begins law limits bytes lines (Err refusal ∷ it.0) it.1 f) (rw (at, spelled) refl) from to
+    by_told (Some bytes) it = whole_refusal limits bytes lines refusal it.0 (record { line = line; kind = kind }) old new
+        (begins law limits bytes lines (Err refusal ∷ it.0) it.1 f) (rw (at, spelled) refl) from to
 
-no_memory : BeginsSources → (limits : Limits) (told left : Option (List ℕ)) (lines : List Line) (old new : List Step) → AreFlawless limits lines → old ≡ steps_of_events (events_to lines) → ComesSome told lines
+no_memory : BeginsSources → (limits : Limits) (told left : Option (List ℕ)) (lines : List Line) (old new : List Step) → AreFlawless limits lines
+    → old ≡ steps_of_events (events_to lines) → ComesSome told lines
     → new ≡ old ++ End Starved ∷ [] → FeedIs limits told left lines old new Memory
 no_memory law limits told left lines old new f from comes to =
     starves limits told lines [] old new f from (by_told told comes) ([], [], refl, to ∙ ap (λ (steps : List Step). steps ++ End Starved ∷ []) (sym (append-nil old)))
@@ -119,7 +127,8 @@ no_memory law limits told left lines old new f from comes to =
     by_told (Some bytes) it = (it.0, (begins law limits bytes lines it.0 it.1 f, due_none limits lines it.0))
 
 -- the reader gave no line
-pub stop_fed : BeginsSources → (limits : Limits) (told left : Option (List ℕ)) (lines : List Line) (cause : ReadError) (line : ℕ) (old new : List Step) → AreFlawless limits lines → old ≡ steps_of_events (events_to lines)
+pub stop_fed : BeginsSources → (limits : Limits) (told left : Option (List ℕ)) (lines : List Line) (cause : ReadError) (line : ℕ) (old new : List Step) → AreFlawless limits lines
+    → old ≡ steps_of_events (events_to lines)
     → ComesSome told lines → IfSome (refusal_of cause) (λ refusal. ComesNext told lines (Err refusal)) → (cause ≡ error.Failed → WasReadSo limits told left lines)
     → line ≡ length lines + lines_by cause → new ≡ old ++ End (verdict_for (answer_to cause line)) ∷ [] → FeedIs limits told left lines old new (answer_to cause line)
 stop_fed law limits told left lines error.Failed line old new f from some next read at to = record { steps = to; read = read refl }
@@ -133,7 +142,8 @@ stop_fed law limits told left lines (error.Line NoMemory) line old new f from so
 stop_fed law limits told left lines error.Memory line old new f from some next read at to = no_memory law limits told left lines old new f from some to
 
 -- the same limits under another name
-pub stands_at : (builder : Builder) (cells : Cells) (lines : List Line) (limits limits' : Limits) → limits ≡ limits' → building.Stands builder limits cells lines → building.Stands builder limits' cells lines
+pub stands_at : (builder : Builder) (cells : Cells) (lines : List Line) (limits limits' : Limits) → limits ≡ limits' → building.Stands builder limits cells lines
+    → building.Stands builder limits' cells lines
 stands_at builder cells lines limits limits' same stands = subst (λ (it : Limits). building.Stands builder it cells lines) same stands
 
 pub none_of : (answer : Option Fed) → ((fed : Fed) → answer ≡ Some fed → ⊥) → answer ≡ None

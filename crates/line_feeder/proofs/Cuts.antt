@@ -1,5 +1,6 @@
 -- What a reader of lines has of its source after each answer.
-use Rattle.std.proofs.Common.{◌≡◌, inl, inr, ◌==◌, ℕ, ◌+◌, ◌≤◌, List, [], ◌∷◌, ◌++◌, Bool, true, false, if◌then◌else◌, IsTrue, length, Option, Some, None, IfSome, Result, Ok, Err, refl, sym, ◌∙◌, ap, subst, arith, append_assoc}
+use Rattle.std.proofs.Common.{◌≡◌, inl, inr, ◌==◌, ℕ, ◌+◌, ◌≤◌, List, [], ◌∷◌, ◌++◌, Bool, true, false, if◌then◌else◌, IsTrue, length, Option, Some}
+use Rattle.std.proofs.Common.{None, IfSome, Result, Ok, Err, refl, sym, ◌∙◌, ap, subst, arith, append_assoc}
 use Rattle.std.specs.List.{count_by}
 use Rattle.std.specs.Io.KnownBytes.{IsAtEnd}
 use Rattle.std.proofs.lemmas.Bool.Decides.{nat_tests}
@@ -37,13 +38,15 @@ some_come reading None left lines h = tt
 some_come reading (Some bytes) None lines h = absurd h
 some_come reading (Some bytes) (Some xs) lines h = (ahead_of reading xs, h.rest)
 
-pub line_comes : (old new : Reading) (told left left' : Option (List ℕ)) (line : Line) (lines : List Line) → HasRead old told left lines → GivesNext old left (Some line) new left' → ComesNext told lines (Ok line)
+pub line_comes : (old new : Reading) (told left left' : Option (List ℕ)) (line : Line) (lines : List Line) → HasRead old told left lines → GivesNext old left (Some line) new left'
+    → ComesNext told lines (Ok line)
 line_comes old new None left left' line lines h gives = tt
 line_comes old new (Some bytes) None left' line lines h gives = absurd h
 line_comes old new (Some bytes) (Some xs) None line lines h gives = absurd gives
 line_comes old new (Some bytes) (Some xs) (Some ys) line lines h gives = (ahead_of new ys, h.rest ∙ ap (λ (later : List (Result Line Refusal)). in_source lines ++ later) gives)
 
-pub refusal_comes : (old : Reading) (told left : Option (List ℕ)) (refusal : Refusal) (lines : List Line) → HasRead old told left lines → RefusesNext old left refusal → ComesNext told lines (Err refusal)
+pub refusal_comes : (old : Reading) (told left : Option (List ℕ)) (refusal : Refusal) (lines : List Line) → HasRead old told left lines → RefusesNext old left refusal
+    → ComesNext told lines (Err refusal)
 refusal_comes old None left refusal lines h refuses = tt
 refusal_comes old (Some bytes) None refusal lines h refuses = absurd h
 refusal_comes old (Some bytes) (Some xs) refusal lines h refuses = (refuses.0, h.rest ∙ ap (λ (later : List (Result Line Refusal)). in_source lines ++ later) refuses.1)
@@ -97,7 +100,8 @@ line_taken old new (Some bytes) (Some xs) (Some ys) line lines h unended gives t
 }
 
 -- each line that ends in the bytes read was given
-pub was_read : BeginsSources → (limits : Limits) (old new : Reading) (told left left' : Option (List ℕ)) (lines : List Line) → AreFlawless limits lines → HasRead old told left lines → old.ended ≡ false
+pub was_read : BeginsSources → (limits : Limits) (old new : Reading) (told left left' : Option (List ℕ)) (lines : List Line) → AreFlawless limits lines
+    → HasRead old told left lines → old.ended ≡ false
     → HoldsNoFeed new.held → Moves old.held left new.held left' → WasReadSo limits told left' lines
 was_read law limits old new None left left' lines f h unended plain m = tt
 was_read law limits old new (Some bytes) None left' lines f h unended plain m = absurd h
@@ -134,7 +138,8 @@ end_by true old new told left left' lines is h held end same gives meets = (end_
 end_by false old new told left left' lines is h held end same gives meets = (end_comes old new told left left' lines h (gives is), meets is)
 
 -- the line that the reader refuses comes next
-pub refusals_come : (old : Reading) (told left : Option (List ℕ)) (lines : List Line) (refused : Option Refusal) → HasRead old told left lines → IfSome refused (λ refusal. RefusesNext old left refusal)
+pub refusals_come : (old : Reading) (told left : Option (List ℕ)) (lines : List Line) (refused : Option Refusal) → HasRead old told left lines
+    → IfSome refused (λ refusal. RefusesNext old left refusal)
     → IfSome refused (λ refusal. ComesNext told lines (Err refusal))
 refusals_come old told left lines None h refuses = tt
 refusals_come old told left lines (Some refusal) h refuses = refusal_comes old told left refusal lines h refuses
@@ -160,7 +165,8 @@ read_later (Some bytes) (Some xs) feeds more few it = later_asked bytes xs feeds
 -- one feed more reads only for its own line
 pub reads_one : (ended : Bool) (old : Reading) (told left left' : Option (List ℕ)) (lines : List Line) → old.ended ≡ ended → HasRead old told left lines → HasReadFor told left (length lines)
     → (IsTrue old.ended → left' ≡ left) → ReadsOnlyForALine old.line old.held left left' → HasReadFor told left' (length lines + 1)
-reads_one true old told left left' lines is h asked same reads = subst (λ (it : Option (List ℕ)). HasReadFor told it (length lines + 1)) (sym (same is)) (read_later told left (length lines) (length lines + 1) (omega arith) asked)
+reads_one true old told left left' lines is h asked same reads =
+    subst (λ (it : Option (List ℕ)). HasReadFor told it (length lines + 1)) (sym (same is)) (read_later told left (length lines) (length lines + 1) (omega arith) asked)
 reads_one false old None left left' lines is h asked same reads = tt
 reads_one false old (Some bytes) None left' lines is h asked same reads = absurd h
 reads_one false old (Some bytes) (Some xs) None lines is h asked same reads = absurd reads

@@ -1,5 +1,6 @@
 -- The last feed, as the one at the least line at which a flaw is judged, or at the input's end.
-use Rattle.std.proofs.Common.{◌≡◌, ◌+◌, ◌<◌, ◌≤◌, ℕ, zero, suc, List, [], ◌∷◌, ◌++◌, false, Option, Some, None, is_some, if◌then◌else◌, Result, Ok, Err, take, length, slice_get, refl, sym, ◌∙◌, ap, arith, add-zero, append_assoc, append-nil}
+use Rattle.std.proofs.Common.{◌≡◌, ◌+◌, ◌<◌, ◌≤◌, ℕ, zero, suc, List, [], ◌∷◌, ◌++◌, false, Option, Some, None, is_some, if◌then◌else◌, Result, Ok}
+use Rattle.std.proofs.Common.{Err, take, length, slice_get, refl, sym, ◌∙◌, ap, arith, add-zero, append_assoc, append-nil}
 use Rattle.std.proofs.lemmas.List.{reverse-append}
 use Rattle.std.specs.List.{flat_map}
 use Rattle.doc_model.specs.declared.limits.Limits.{Limits}
@@ -22,13 +23,15 @@ record LastIn (limits : Limits) (before : List Line) (lines : List (Result Line 
   here : line < length lines → (flaw : Flaw) × (judged_in limits before lines line ≡ Some flaw)
   earlier : (k : ℕ) → k < line → judged_in limits before lines k ≡ None
 
-more_before : (before : List Line) (line : Line) (lines : List (Result Line Refusal)) (k : ℕ) → events_before (take (suc k) (Ok line ∷ lines)) ++ before ≡ events_before (take k lines) ++ (line ∷ before)
+more_before : (before : List Line) (line : Line) (lines : List (Result Line Refusal)) (k : ℕ)
+    → events_before (take (suc k) (Ok line ∷ lines)) ++ before ≡ events_before (take k lines) ++ (line ∷ before)
 more_before before line lines k =
     let events = flat_map event_of (take k lines) in
     ap (λ (all : List Line). all ++ before) (reverse-append (line ∷ []) events) ∙ append_assoc (events_before (take k lines)) (line ∷ []) before
 
 -- one line further
-further : (limits : Limits) (before : List Line) (line : Line) (lines : List (Result Line Refusal)) (k : ℕ) → judged_in limits before (Ok line ∷ lines) (suc k) ≡ judged_in limits (line ∷ before) lines k
+further : (limits : Limits) (before : List Line) (line : Line) (lines : List (Result Line Refusal)) (k : ℕ)
+    → judged_in limits before (Ok line ∷ lines) (suc k) ≡ judged_in limits (line ∷ before) lines k
 further limits before line lines k =
     let count : suc k + length before ≡ k + length (line ∷ before) = omega arith in
     ap (λ (all : List Line). judged limits false all (suc k + length before) (slice_get lines k)) (more_before before line lines k)

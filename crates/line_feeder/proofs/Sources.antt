@@ -1,5 +1,6 @@
 -- What is known of a source that begins with these lines, none of which has a flaw.
-use Rattle.std.proofs.Common.{◌≡◌, ℕ, ◌+◌, ◌<◌, List, [], ◌∷◌, ◌++◌, false, length, map, reverse, take, Option, Some, None, is_some, if◌then◌else◌, Result, Ok, Err, refl, sym, ◌∙◌, ap, arith, append_assoc, append-nil, zero-add}
+use Rattle.std.proofs.Common.{◌≡◌, ℕ, ◌+◌, ◌<◌, List, [], ◌∷◌, ◌++◌, false, length, map, reverse, take, Option, Some, None, is_some, if◌then◌else◌}
+use Rattle.std.proofs.Common.{Result, Ok, Err, refl, sym, ◌∙◌, ap, arith, append_assoc, append-nil, zero-add}
 use Rattle.std.proofs.lemmas.List.{reverse-append, map-append, length-map, length-reverse}
 use Rattle.std.proofs.Math.Seq.{take-append_seam}
 use Rattle.doc_model.specs.declared.flaw.Flaw.{Flaw}
@@ -57,7 +58,8 @@ pub record Begins (limits : Limits) (bytes : List ℕ) (lines : List Line) (late
   pub steps : steps_of limits bytes ≡ steps_of_events (events_to lines) ++ steps_from limits lines later
   pub feeds : feeds_of limits bytes ≡ length lines + feeds_from limits lines later
 
-pub begins : BeginsSources → (limits : Limits) (bytes : List ℕ) (lines : List Line) (later : List (Result Line Refusal)) → judged_lines bytes ≡ in_source lines ++ later → AreFlawless limits lines → Begins limits bytes lines later
+pub begins : BeginsSources → (limits : Limits) (bytes : List ℕ) (lines : List Line) (later : List (Result Line Refusal)) → judged_lines bytes ≡ in_source lines ++ later
+    → AreFlawless limits lines → Begins limits bytes lines later
 begins law limits bytes lines later is f = record {
   flaw = ap (flaw_from limits false []) is ∙ law.flaw limits lines later f;
   steps = ap (steps_from limits []) is ∙ law.steps limits lines later f;
@@ -89,7 +91,8 @@ whole_end_flaw limits bytes lines flaw old new b is from to =
     whole_by limits bytes lines [] flaw old new b is (ap (λ (flaw : Option Flaw). bad_or flaw (End Good ∷ [])) is) refl from to
 
 -- the next line has this flaw
-pub whole_line_flaw : (limits : Limits) (bytes : List ℕ) (lines : List Line) (line : Line) (later : List (Result Line Refusal)) (flaw : Flaw) (old new : List Step) → Begins limits bytes lines (Ok line ∷ later)
+pub whole_line_flaw : (limits : Limits) (bytes : List ℕ) (lines : List Line) (line : Line) (later : List (Result Line Refusal)) (flaw : Flaw) (old new : List Step)
+    → Begins limits bytes lines (Ok line ∷ later)
     → line_flaw limits false lines line ≡ Some flaw → old ≡ steps_of_events (events_to lines) → new ≡ old ++ End (Bad flaw) ∷ [] → IsWhole limits bytes lines (Some flaw) new
 whole_line_flaw limits bytes lines line later flaw old new b is from to =
     whole_by limits bytes lines (Ok line ∷ later) flaw old new b
@@ -99,7 +102,8 @@ whole_line_flaw limits bytes lines line later flaw old new b is from to =
     from to
 
 -- the next line is refused
-pub whole_refusal : (limits : Limits) (bytes : List ℕ) (lines : List Line) (refusal : Refusal) (later : List (Result Line Refusal)) (flaw : Flaw) (old new : List Step) → Begins limits bytes lines (Err refusal ∷ later)
+pub whole_refusal : (limits : Limits) (bytes : List ℕ) (lines : List Line) (refusal : Refusal) (later : List (Result Line Refusal)) (flaw : Flaw) (old new : List Step)
+    → Begins limits bytes lines (Err refusal ∷ later)
     → flaw ≡ record { line = length lines + 1; kind = kind_of refusal } → old ≡ steps_of_events (events_to lines) → new ≡ old ++ End (Bad flaw) ∷ [] → IsWhole limits bytes lines (Some flaw) new
 whole_refusal limits bytes lines refusal later flaw old new b is from to =
     whole_by limits bytes lines (Err refusal ∷ later) flaw old new b (ap (λ (it : Flaw). Some it) (sym is)) (ap (λ (it : Flaw). End (Bad it) ∷ []) (sym is)) refl from to

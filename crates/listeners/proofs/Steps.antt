@@ -1,5 +1,6 @@
 -- What a listener heard, message by message.
-use Rattle.std.proofs.Common.{◌≡◌, ℕ, suc, ◌+◌, ◌<◌, ◌≤◌, List, [], ◌∷◌, ◌++◌, Option, Some, None, Result, Ok, Err, take, map, length, refl, sym, ap, subst, ◌∙◌, arith, append_assoc, get_or, true≢false}
+use Rattle.std.proofs.Common.{◌≡◌, ℕ, suc, ◌+◌, ◌<◌, ◌≤◌, List, [], ◌∷◌, ◌++◌, Option, Some, None, Result, Ok, Err, take, map, length, refl, sym, ap}
+use Rattle.std.proofs.Common.{subst, ◌∙◌, arith, append_assoc, get_or, true≢false}
 use Rattle.std.specs.Prelude.{slice_get, IfSome}
 use Rattle.std.proofs.lemmas.Grind.{common_steps}
 use Rattle.std.proofs.lemmas.List.{map-append, append-nil}
@@ -106,9 +107,11 @@ heard_whole messages k before after held past = subst (λ done. HeardAll done be
 
 -- what comes of the listeners behind comes of all, behind what was left and what was dropped so far
 pub record CarriesOn {X : Type 0} (messages : List Message) (all rest left : List X) (dropped : List Dropped) (at : ℕ) (told : X → Told) : Type 0 where
-  pub carried : (left_behind : List Told) (dropped_behind : List Dropped) → Tells messages at (map told rest) left_behind dropped_behind → Tells messages 0 (map told all) (map told left ++ left_behind) (dropped ++ dropped_behind)
+  pub carried : (left_behind : List Told) (dropped_behind : List Dropped) → Tells messages at (map told rest) left_behind dropped_behind
+      → Tells messages 0 (map told all) (map told left ++ left_behind) (dropped ++ dropped_behind)
 
-pub carries_first : {X : Type 0} (messages : List Message) (all rest left : List X) (dropped : List Dropped) (told : X → Told) → rest ≡ all → left ≡ [] → dropped ≡ [] → CarriesOn messages all rest left dropped 0 told
+pub carries_first : {X : Type 0} (messages : List Message) (all rest left : List X) (dropped : List Dropped) (told : X → Told) → rest ≡ all → left ≡ [] → dropped ≡ []
+    → CarriesOn messages all rest left dropped 0 told
 carries_first messages all rest left dropped told is empty nobody = record {
   carried = λ left_behind dropped_behind tells.
       subst (λ l. Tells messages 0 (map told all) (map told l ++ left_behind) (dropped ++ dropped_behind)) (sym empty)
@@ -116,26 +119,32 @@ carries_first messages all rest left dropped told is empty nobody = record {
       (subst (λ r. Tells messages 0 (map told r) left_behind dropped_behind) is tells));
 }
 
-pub carries_kept : {X : Type 0} (messages : List Message) (all rest later left more : List X) (dropped same : List Dropped) (at : ℕ) (told : X → Told) (before after : X) → CarriesOn messages all rest left dropped at told
+pub carries_kept : {X : Type 0} (messages : List Message) (all rest later left more : List X) (dropped same : List Dropped) (at : ℕ) (told : X → Told) (before after : X)
+    → CarriesOn messages all rest left dropped at told
     → rest ≡ before ∷ later → HeardAll messages (told before) (told after) → more ≡ left ++ after ∷ [] → same ≡ dropped → CarriesOn messages all later more same (at + 1) told
 carries_kept messages all rest later left more dropped same at told before after on is heard grown stayed = subst (λ d. CarriesOn messages all later more d (at + 1) told) (sym stayed) (record {
   carried = λ left_behind dropped_behind tells.
       let old = on.carried (told after ∷ left_behind) dropped_behind (subst (λ r. Tells messages at (map told r) (told after ∷ left_behind) dropped_behind) (sym is) (kept heard tells)) in
-      let joined : map told more ++ left_behind ≡ map told left ++ (told after ∷ left_behind) = ap (λ l. map told l ++ left_behind) grown ∙ ap (λ l. l ++ left_behind) (map-append told left (after ∷ [])) ∙ append_assoc (map told left) (told after ∷ []) left_behind in
+      let joined : map told more ++ left_behind ≡ map told left ++ (told after ∷ left_behind) =
+      ap (λ l. map told l ++ left_behind) grown ∙ ap (λ l. l ++ left_behind) (map-append told left (after ∷ [])) ∙ append_assoc (map told left) (told after ∷ []) left_behind in
       subst (λ l. Tells messages 0 (map told all) l (dropped ++ dropped_behind)) (sym joined) old;
 })
 
-pub carries_failed : {X : Type 0} (messages : List Message) (all rest later left same : List X) (dropped more : List Dropped) (at heard : ℕ) (told : X → Told) (before : X) (after : Told) → CarriesOn messages all rest left dropped at told
-    → rest ≡ before ∷ later → FailedAfter messages heard (told before) after → more ≡ dropped ++ record { index = at; heard = heard } ∷ [] → same ≡ left → CarriesOn messages all later same more (at + 1) told
-carries_failed messages all rest later left same dropped more at heard told before after on is ended grown stayed = subst (λ l. CarriesOn messages all later l more (at + 1) told) (sym stayed) (record {
-  carried = λ left_behind dropped_behind tells.
-      let one : Dropped = record { index = at; heard = heard } in
-      let old = on.carried left_behind (one ∷ dropped_behind) (subst (λ r. Tells messages at (map told r) left_behind (one ∷ dropped_behind)) (sym is) (failed ended tells)) in
-      let joined : more ++ dropped_behind ≡ dropped ++ (one ∷ dropped_behind) = ap (λ d. d ++ dropped_behind) grown ∙ append_assoc dropped (one ∷ []) dropped_behind in
-      subst (λ d. Tells messages 0 (map told all) (map told left ++ left_behind) d) (sym joined) old;
-})
+pub carries_failed : {X : Type 0} (messages : List Message) (all rest later left same : List X) (dropped more : List Dropped) (at heard : ℕ) (told : X → Told) (before : X)
+    (after : Told) → CarriesOn messages all rest left dropped at told
+    → rest ≡ before ∷ later → FailedAfter messages heard (told before) after → more ≡ dropped ++ record { index = at; heard = heard } ∷ [] → same ≡ left
+    → CarriesOn messages all later same more (at + 1) told
+carries_failed messages all rest later left same dropped more at heard told before after on is ended grown stayed =
+    subst (λ l. CarriesOn messages all later l more (at + 1) told) (sym stayed) (record {
+      carried = λ left_behind dropped_behind tells.
+          let one : Dropped = record { index = at; heard = heard } in
+          let old = on.carried left_behind (one ∷ dropped_behind) (subst (λ r. Tells messages at (map told r) left_behind (one ∷ dropped_behind)) (sym is) (failed ended tells)) in
+          let joined : more ++ dropped_behind ≡ dropped ++ (one ∷ dropped_behind) = ap (λ d. d ++ dropped_behind) grown ∙ append_assoc dropped (one ∷ []) dropped_behind in
+          subst (λ d. Tells messages 0 (map told all) (map told left ++ left_behind) d) (sym joined) old;
+    })
 
-pub carries_end : {X : Type 0} (messages : List Message) (all rest left : List X) (dropped given : List Dropped) (at : ℕ) (told : X → Told) → CarriesOn messages all rest left dropped at told → rest ≡ [] → given ≡ dropped → Tells messages 0 (map told all) (map told left) given
+pub carries_end : {X : Type 0} (messages : List Message) (all rest left : List X) (dropped given : List Dropped) (at : ℕ) (told : X → Told)
+    → CarriesOn messages all rest left dropped at told → rest ≡ [] → given ≡ dropped → Tells messages 0 (map told all) (map told left) given
 carries_end messages all rest left dropped given at told on is same =
     let old = on.carried [] [] (subst (λ r. Tells messages at (map told r) [] []) (sym is) none) in
     subst (λ d. Tells messages 0 (map told all) (map told left) d) (append-nil dropped ∙ sym same) (subst (λ l. Tells messages 0 (map told all) l (dropped ++ [])) (append-nil (map told left)) old)

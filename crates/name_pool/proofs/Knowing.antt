@@ -19,7 +19,8 @@ abbrev pub AreThere : List (TypeKey × ℕ) → List (List ℕ) → Type 0
 AreThere types locals = (key : TypeKey) (n : ℕ) → number_at types key ≡ Some n → key.local < length locals
 
 -- where the local name isn't there, nothing is known
-pub unknown : (index : Index) (kind : Kind) (uri : ℕ) (local : List ℕ) (r : Option ℕ) → r ≡ None → ((k : ℕ) → slice_get index.locals k ≡ Some local → ⊥) → (n : ℕ) → (r ≡ Some n) ↔ Knows index kind uri local n
+pub unknown : (index : Index) (kind : Kind) (uri : ℕ) (local : List ℕ) (r : Option ℕ) → r ≡ None → ((k : ℕ) → slice_get index.locals k ≡ Some local → ⊥) → (n : ℕ)
+    → (r ≡ Some n) ↔ Knows index kind uri local n
 unknown index kind uri local r none absent n = ((λ e. absurd (none-some n (sym none ∙ e))), λ is. absurd (absent is.0 is.1))
 
 -- what stands at the key of a local name that is there
@@ -51,7 +52,8 @@ pub still_known : (types : List (TypeKey × ℕ)) (locals more : List (List ℕ)
 still_known types locals more keeps kind uri text n knows = (knows.0, keeps text knows.0 knows.1, knows.2)
 
 -- one more key
-pub there_put : (types next : List (TypeKey × ℕ)) (locals : List (List ℕ)) (key : TypeKey) (v : ℕ) → Puts (number_at types) (number_at next) key v → key.local < length locals → AreThere types locals → AreThere next locals
+pub there_put : (types next : List (TypeKey × ℕ)) (locals : List (List ℕ)) (key : TypeKey) (v : ℕ) → Puts (number_at types) (number_at next) key v → key.local < length locals
+    → AreThere types locals → AreThere next locals
 there_put types next locals key v puts within there other n e =
     ⊎_elim
     (λ same. subst (λ (it : TypeKey). it.local < length locals) (sym same.0) within)
@@ -73,7 +75,8 @@ kept_key locals kind uri at local k u place text p q same = (
   same_Some text local (sym q ∙ ap (slice_get locals) (ap (λ (it : TypeKey). it.local) same) ∙ p),
 )
 
-module _ (types next : List (TypeKey × ℕ)) (locals : List (List ℕ)) (kind : Kind) (uri at : ℕ) (local : List ℕ) (v : ℕ) (here : slice_get locals at ≡ Some local) (puts : Puts (number_at types) (number_at next) (key_of kind uri at) v) where
+module _ (types next : List (TypeKey × ℕ)) (locals : List (List ℕ)) (kind : Kind) (uri at : ℕ) (local : List ℕ) (v : ℕ) (here : slice_get locals at ≡ Some local)
+    (puts : Puts (number_at types) (number_at next) (key_of kind uri at) v) where
   pub put_kept : Knows (record { locals = locals; types = next }) kind uri local v
   put_kept = ⊎_elim (λ same. (at, here, same.1)) (λ else. absurd (else.0 refl)) (puts (key_of kind uri at))
 

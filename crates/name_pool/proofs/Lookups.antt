@@ -60,11 +60,16 @@ module _ {K : Type 0} (eq : K → K → Bool) (test : K → Bool) where
 apart_in_order : (bs cs ks : List ℕ) → bytes_eq bs cs ≡ false → is_eq (slice_cmp nat_cmp bs ks) ≡ true → is_eq (slice_cmp nat_cmp cs ks) ≡ false
 apart_in_order bs cs ks n y =
     let same = exact_bytes bs ks (is_equal (slice_cmp nat_cmp bs ks) y) in
-    ⊎_elim (λ t. absurd (true≢false (sym ((bytes_decides bs cs).1 (same ∙ sym (exact_bytes cs ks (is_equal (slice_cmp nat_cmp cs ks) t)))) ∙ n))) (λ f. f) (cases_Bool (is_eq (slice_cmp nat_cmp cs ks)))
+    ⊎_elim (λ t. absurd (true≢false (sym ((bytes_decides bs cs).1 (same ∙ sym (exact_bytes cs ks (is_equal (slice_cmp nat_cmp cs ks) t)))) ∙ n))) (λ f. f)
+    (cases_Bool (is_eq (slice_cmp nat_cmp cs ks)))
 
 pub puts_text : (m n : BTreeMap (Vec ℕ) ℕ) (key : Vec ℕ) (v : ℕ) → tree.Updates (λ x y. slice_cmp nat_cmp x.items y.items) m n key (Some v) → Puts (text_number m) (text_number n) key.items v
 puts_text m n key v u bytes =
     ⊎_elim
     (λ y. inl (sym ((bytes_decides key.items bytes).0 y), ap (λ l. text_number n l) (sym ((bytes_decides key.items bytes).0 y)) ∙ u.1))
-    (λ f. inr ((λ e. true≢false (sym ((bytes_decides key.items bytes).1 (sym e)) ∙ f)), others _ _ _ _ u.3 _ (λ x y. (eq_by_cmp_equiv nat_list_cmp_total).congr bytes x.items y.items) (λ k. apart_in_order key.items bytes k.items f)))
+    (λ f. inr (
+      (λ e. true≢false (sym ((bytes_decides key.items bytes).1 (sym e)) ∙ f)),
+      others _ _ _ _ u.3 _
+          (λ x y. (eq_by_cmp_equiv nat_list_cmp_total).congr bytes x.items y.items) (λ k. apart_in_order key.items bytes k.items f),
+    ))
     (cases_Bool (bytes_eq key.items bytes))

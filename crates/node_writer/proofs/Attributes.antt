@@ -61,5 +61,7 @@ module _ (f g : Filler) (limits : Limits) (b c : Columns) (xs : List Row) (i n :
         alone = λ e. refl;
       }
 
-  pub item_filled : (h : Filler) (d : Columns) → RowsFilled f g limits b c (take i xs) (attribute_links n) → RowsFilled g h limits c d (x ∷ []) (attribute_links n) → RowsFilled f h limits b d (take (i + 1) xs) (attribute_links n)
-  item_filled h d r s = subst (λ ys. RowsFilled f h limits b d ys (attribute_links n)) (sym (take_next xs i x within item)) (more_filled f g h limits b c d (take i xs) (x ∷ []) (attribute_links n) r s)
+  pub item_filled : (h : Filler) (d : Columns) → RowsFilled f g limits b c (take i xs) (attribute_links n) → RowsFilled g h limits c d (x ∷ []) (attribute_links n)
+      → RowsFilled f h limits b d (take (i + 1) xs) (attribute_links n)
+  item_filled h d r s = subst (λ ys. RowsFilled f h limits b d ys (attribute_links n)) (sym (take_next xs i x within item))
+      (more_filled f g h limits b c d (take i xs) (x ∷ []) (attribute_links n) r s)

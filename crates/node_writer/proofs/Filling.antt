@@ -27,12 +27,25 @@ row_parts row prefix uri local value p u l v =
 
 -- the place of a row whose value is filled next
 abbrev pub place_next : Row → Links → (type prefix at : ℕ) → RowPlace
-place_next row links type prefix at = record { kind = row.kind; type_id = type; prefix_id = prefix; parent = links.parent; prev = links.prev; depth = row.depth; attr_count = links.attributes; text_at = at; text_len = length row.value }
+place_next row links type prefix at =
+    record {
+      kind = row.kind;
+      type_id = type;
+      prefix_id = prefix;
+      parent = links.parent;
+      prev = links.prev;
+      depth = row.depth;
+      attr_count = links.attributes;
+      text_at =
+          at;
+      text_len = length row.value;
+    }
 
 module _ (limits : Limits) (row : Row) (links : Links) (f f1 f2 f3 : Filler) (c0 c1 c2 c3 c4 : Cells) (type prefix at : ℕ) where
   pub row_filled : TypeFilled f f1 limits c1.columns row → IsTypeOf c1.columns type (name_of_row row) → FillsTexts c0 c1
       → PrefixFilled f1 f2 limits c2.columns row.prefix → IsPrefixOf c2.columns prefix row.prefix → FillsTexts c1 c2
-      → at ≡ text_place f2.at → f3 ≡ record f2 { text = f2.text + length row.value; at = text_place f2.at + length row.value } → c3 ≡ with_text c2 row.value → c4 ≡ with_row c3 (place_next row links type prefix at)
+      → at ≡ text_place f2.at → f3 ≡ record f2 { text = f2.text + length row.value; at = text_place f2.at + length row.value } → c3 ≡ with_text c2 row.value
+      → c4 ≡ with_row c3 (place_next row links type prefix at)
       → RowsFilled f (record f3 { rows = f3.rows + 1 }) limits c0.columns c4.columns (row ∷ []) links
   row_filled t tn tf p pn pf ae fe ce re =
       let place : RowPlace = place_next row links type prefix at in
@@ -127,7 +140,8 @@ none_filled f limits c links s = record {
 }
 
 -- rows, and then more
-pub more_filled : (f g h : Filler) (limits : Limits) (b c d : Columns) (xs ys : List Row) (links : Links) → RowsFilled f g limits b c xs links → RowsFilled g h limits c d ys links → RowsFilled f h limits b d (xs ++ ys) links
+pub more_filled : (f g h : Filler) (limits : Limits) (b c d : Columns) (xs ys : List Row) (links : Links) → RowsFilled f g limits b c xs links → RowsFilled g h limits c d ys links
+    → RowsFilled f h limits b d (xs ++ ys) links
 more_filled f g h limits b c d xs ys links s t = record {
   stands = t.stands;
   names = t.names ∙ ap (λ (n : List Name). names_from n ys) s.names ∙ sym (names_from-append f.pool.names xs ys);
@@ -141,19 +155,25 @@ more_filled f g h limits b c d xs ys links s t = record {
 }
 
 -- what the first rows leave of the room is enough for the next
-pub next_fits : (f g : Filler) (limits : Limits) (b c : Columns) (xs ys zs : List Row) (links : Links) → FillerStands f limits b → RowsFit f limits (xs ++ ys ++ zs) → RowsFilled f g limits b c xs links → RowsFit g limits ys
+pub next_fits : (f g : Filler) (limits : Limits) (b c : Columns) (xs ys zs : List Row) (links : Links) → FillerStands f limits b → RowsFit f limits (xs ++ ys ++ zs)
+    → RowsFilled f g limits b c xs links → RowsFit g limits ys
 next_fits f g limits b c xs ys zs links s fits r =
     let n = names_from_more (names_from g.pool.names ys) zs in
     let p = prefixes_from_more (prefixes_from g.pool.prefixes ys) zs in
     let ne : names_from f.pool.names (xs ++ ys ++ zs) ≡ names_from g.pool.names ys ++ n.0 =
     names_from-append f.pool.names (xs ++ ys) zs ∙ ap (λ (q : List Name). names_from q zs) (names_from-append f.pool.names xs ys ∙ ap (λ (q : List Name). names_from q ys) (sym r.names)) ∙ n.1 in
     let pe : prefixes_from f.pool.prefixes (xs ++ ys ++ zs) ≡ prefixes_from g.pool.prefixes ys ++ p.0 =
-    prefixes_from-append f.pool.prefixes (xs ++ ys) zs ∙ ap (λ (q : List (List ℕ)). prefixes_from q zs) (prefixes_from-append f.pool.prefixes xs ys ∙ ap (λ (q : List (List ℕ)). prefixes_from q ys) (sym r.prefixes)) ∙ p.1 in
+    prefixes_from-append f.pool.prefixes (xs ++ ys) zs
+    ∙ ap (λ (q : List (List ℕ)). prefixes_from q zs) (prefixes_from-append f.pool.prefixes xs ys ∙ ap (λ (q : List (List ℕ)). prefixes_from q ys) (sym r.prefixes)) ∙ p.1 in
     let nl : length (names_from f.pool.names (xs ++ ys ++ zs)) ≡ length (names_from g.pool.names ys) + length (n.0) = ap length ne ∙ length-append (names_from g.pool.names ys) (n.0) in
-    let pl : length (prefixes_from f.pool.prefixes (xs ++ ys ++ zs)) ≡ length (prefixes_from g.pool.prefixes ys) + length (p.0) = ap length pe ∙ length-append (prefixes_from g.pool.prefixes ys) (p.0) in
-    let nb : name_bytes (names_from f.pool.names (xs ++ ys ++ zs)) ≡ name_bytes (names_from g.pool.names ys) + name_bytes (n.0) = ap name_bytes ne ∙ sum_by-append (λ (name : Name). length name.uri + length name.local) (names_from g.pool.names ys) (n.0) in
-    let pb : prefix_bytes (prefixes_from f.pool.prefixes (xs ++ ys ++ zs)) ≡ prefix_bytes (prefixes_from g.pool.prefixes ys) + prefix_bytes (p.0) = ap prefix_bytes pe ∙ sum_by-append (λ (prefix : List ℕ). length prefix) (prefixes_from g.pool.prefixes ys) (p.0) in
-    let vb : value_bytes (xs ++ ys ++ zs) ≡ value_bytes xs + value_bytes ys + value_bytes zs = sum_by-append (λ (row : Row). length row.value) (xs ++ ys) zs ∙ ap (λ k. k + value_bytes zs) (sum_by-append (λ (row : Row). length row.value) xs ys) in
+    let pl : length (prefixes_from f.pool.prefixes (xs ++ ys ++ zs)) ≡ length (prefixes_from g.pool.prefixes ys) + length (p.0) =
+    ap length pe ∙ length-append (prefixes_from g.pool.prefixes ys) (p.0) in
+    let nb : name_bytes (names_from f.pool.names (xs ++ ys ++ zs)) ≡ name_bytes (names_from g.pool.names ys) + name_bytes (n.0) =
+    ap name_bytes ne ∙ sum_by-append (λ (name : Name). length name.uri + length name.local) (names_from g.pool.names ys) (n.0) in
+    let pb : prefix_bytes (prefixes_from f.pool.prefixes (xs ++ ys ++ zs)) ≡ prefix_bytes (prefixes_from g.pool.prefixes ys) + prefix_bytes (p.0) =
+    ap prefix_bytes pe ∙ sum_by-append (λ (prefix : List ℕ). length prefix) (prefixes_from g.pool.prefixes ys) (p.0) in
+    let vb : value_bytes (xs ++ ys ++ zs) ≡ value_bytes xs + value_bytes ys + value_bytes zs =
+    sum_by-append (λ (row : Row). length row.value) (xs ++ ys) zs ∙ ap (λ k. k + value_bytes zs) (sum_by-append (λ (row : Row). length row.value) xs ys) in
     let len : length (xs ++ ys ++ zs) ≡ length xs + length ys + length zs = length-append (xs ++ ys) zs ∙ ap (λ k. k + length zs) (length-append xs ys) in
     let count : length r.places ≡ length xs = spells_count c r.places xs r.spells in
     let rows : g.rows ≡ f.rows + length xs = r.stands.rows ∙ ap length r.placed ∙ length-append b.places r.places ∙ omega (arith, count, s.rows) in

@@ -66,9 +66,12 @@ module _ (c d : Columns) (fuller : IsFuller c d) where
       let p = prefix_same place.prefix_id s.prefix in
       let name : NamePlace = name_at c place.type_id in
       let prefix : PrefixPlace = prefix_at c place.prefix_id in
-      let a : slice_of d.texts (prefix_at d place.prefix_id).at (prefix_at d place.prefix_id).len ≡ slice_of c.texts prefix.at prefix.len = ap (λ (q : PrefixPlace). slice_of d.texts q.at q.len) p ∙ slice_same prefix.at prefix.len s.prefix_fits in
-      let b : slice_of d.texts (name_at d place.type_id).uri_at (name_at d place.type_id).uri_len ≡ slice_of c.texts name.uri_at name.uri_len = ap (λ (q : NamePlace). slice_of d.texts q.uri_at q.uri_len) n ∙ slice_same name.uri_at name.uri_len s.name_fits.uri in
-      let e : slice_of d.texts (name_at d place.type_id).local_at (name_at d place.type_id).local_len ≡ slice_of c.texts name.local_at name.local_len = ap (λ (q : NamePlace). slice_of d.texts q.local_at q.local_len) n ∙ slice_same name.local_at name.local_len s.name_fits.local in
+      let a : slice_of d.texts (prefix_at d place.prefix_id).at (prefix_at d place.prefix_id).len ≡ slice_of c.texts prefix.at prefix.len =
+      ap (λ (q : PrefixPlace). slice_of d.texts q.at q.len) p ∙ slice_same prefix.at prefix.len s.prefix_fits in
+      let b : slice_of d.texts (name_at d place.type_id).uri_at (name_at d place.type_id).uri_len ≡ slice_of c.texts name.uri_at name.uri_len =
+      ap (λ (q : NamePlace). slice_of d.texts q.uri_at q.uri_len) n ∙ slice_same name.uri_at name.uri_len s.name_fits.uri in
+      let e : slice_of d.texts (name_at d place.type_id).local_at (name_at d place.type_id).local_len ≡ slice_of c.texts name.local_at name.local_len =
+      ap (λ (q : NamePlace). slice_of d.texts q.local_at q.local_len) n ∙ slice_same name.local_at name.local_len s.name_fits.local in
       let v : slice_of d.texts place.text_at place.text_len ≡ slice_of c.texts place.text_at place.text_len = slice_same place.text_at place.text_len s.text_fits in
       let same : row_of d place ≡ row_of c place = cc in
       record {

@@ -1,5 +1,6 @@
 -- What is known and what was found of rows, as more names are added.
-use Rattle.std.proofs.Common.{◌≡◌, ◌≢◌, ◌↔◌, ℕ, zero, suc, ◌+◌, ◌-◌, ◌<◌, Bool, true, false, ◌&&◌, not, cond, List, [], ◌∷◌, ◌++◌, length, take, get_or, Option, Some, None, IfNone, refl, ap, sym, ◌∙◌, subst, arith, inl, inr}
+use Rattle.std.proofs.Common.{◌≡◌, ◌≢◌, ◌↔◌, ℕ, zero, suc, ◌+◌, ◌-◌, ◌<◌, Bool, true, false, ◌&&◌, not, cond, List, [], ◌∷◌, ◌++◌, length, take}
+use Rattle.std.proofs.Common.{get_or, Option, Some, None, IfNone, refl, ap, sym, ◌∙◌, subst, arith, inl, inr}
 use Rattle.std.specs.Prelude.{is_some}
 use Rattle.std.specs.List.{slice_get}
 use Rattle.std.proofs.lemmas.Bool.{cases_Bool}
@@ -45,7 +46,8 @@ known_still names rows row None h = h
 known_still names rows row (Some n) h = (h.0, h.1, names_kept names rows (name_of_row row) (n - 3) h.2)
 
 -- a row whose type number is known fills nothing
-pub known_type : (filler : Filler) (limits : Limits) (c : Columns) → FillerStands filler limits c → (row : Row) (n : ℕ) → IsTypeIn filler.pool.names (name_of_row row) n → TypeFilled filler filler limits c row × IsTypeOf c n (name_of_row row)
+pub known_type : (filler : Filler) (limits : Limits) (c : Columns) → FillerStands filler limits c → (row : Row) (n : ℕ) → IsTypeIn filler.pool.names (name_of_row row) n
+    → TypeFilled filler filler limits c row × IsTypeOf c n (name_of_row row)
 known_type filler limits c stands row n h =
     let old = old_name filler limits c stands (name_of_row row) n (h.1, h.2) in (
       record {
@@ -71,7 +73,8 @@ known_item old now rows known at row within is names all one e =
 pub known_first : (names : List Name) (row : Row) (rows : List Row) (known : List (Option ℕ)) → AreKnown 0 names (row ∷ rows) known → IsKnown names row (known_at known 0)
 known_first names row rows known all = all 0 row refl
 
-pub known_rest_still : (names now : List Name) (row : Row) (rows : List Row) (known : List (Option ℕ)) → now ≡ names_from names (row ∷ []) → AreKnown 0 names (row ∷ rows) known → AreKnown 1 now rows known
+pub known_rest_still : (names now : List Name) (row : Row) (rows : List Row) (known : List (Option ℕ)) → now ≡ names_from names (row ∷ []) → AreKnown 0 names (row ∷ rows) known
+    → AreKnown 1 now rows known
 known_rest_still names now row rows known e all k one h =
     let place : 0 + suc k ≡ 1 + k = omega arith in
     subst (λ (them : List Name). IsKnown them one (known_at known (1 + k))) (sym e)
@@ -97,14 +100,16 @@ all_known names rows found are k row h =
 pub nothing_known : (start : ℕ) (names : List Name) (rows : List Row) → AreKnown start names rows []
 nothing_known start names rows k row h = tt
 
-pub found_more : (names : List Name) (rows : List Row) (found : List (Option ℕ)) (row : Row) (one : Option ℕ) → IsFound names row one → AreFound names rows found → AreFound names (rows ++ row ∷ []) (found ++ one ∷ [])
+pub found_more : (names : List Name) (rows : List Row) (found : List (Option ℕ)) (row : Row) (one : Option ℕ) → IsFound names row one → AreFound names rows found
+    → AreFound names (rows ++ row ∷ []) (found ++ one ∷ [])
 found_more names [] [] row one here are = (here, tt)
 found_more names [] (other ∷ found) row one here are = absurd are
 found_more names (first ∷ rows) [] row one here are = absurd are
 found_more names (first ∷ rows) (other ∷ found) row one here are = (are.0, found_more names rows found row one here are.1)
 
 -- what a look-up gives of a row is what is found of it
-pub looked_up : (pool : Pool) (row : Row) (name : Name) (found : Option ℕ) → name ≡ name_of_row row → has_name row.kind ≡ true → ((n : ℕ) → (found ≡ Some n) ↔ IsTypeNumber pool n name) → IfNone found (IsNew pool.names name)
+pub looked_up : (pool : Pool) (row : Row) (name : Name) (found : Option ℕ) → name ≡ name_of_row row → has_name row.kind ≡ true
+    → ((n : ℕ) → (found ≡ Some n) ↔ IsTypeNumber pool n name) → IfNone found (IsNew pool.names name)
     → IsFound pool.names row found
 looked_up pool row name None same named number new = λ h. subst (λ (it : Name). is_name_of it pool.names ≡ false) same (name_absent pool.names name new)
 looked_up pool row name (Some n) same named number new =
@@ -114,12 +119,14 @@ turned : (a b : Bool) → a ≡ not b → b ≡ not a
 turned a true e = ap not (sym e)
 turned a false e = ap not (sym e)
 
-unfound : (names : List Name) (row : Row) (found : Option ℕ) → IsFound names row found → has_name row.kind ≡ true → not (is_some found) ≡ (has_name row.kind && not (is_name_of (name_of_row row) names))
+unfound : (names : List Name) (row : Row) (found : Option ℕ) → IsFound names row found → has_name row.kind ≡ true
+    → not (is_some found) ≡ (has_name row.kind && not (is_name_of (name_of_row row) names))
 unfound names row None h named = rw (named, h named) refl
 unfound names row (Some n) h named = rw (named, name_found names (name_of_row row) (n - 3) h.2) refl
 
 -- a row's name is new where nothing was found of it
-pub named_new : (names : List Name) (row : Row) (found : Option ℕ) (none : Bool) → is_some found ≡ not none → IsFound names row found → has_name row.kind ≡ true → none ≡ (has_name row.kind && not (is_name_of (name_of_row row) names))
+pub named_new : (names : List Name) (row : Row) (found : Option ℕ) (none : Bool) → is_some found ≡ not none → IsFound names row found → has_name row.kind ≡ true
+    → none ≡ (has_name row.kind && not (is_name_of (name_of_row row) names))
 named_new names row found none is h named = turned (is_some found) none is ∙ unfound names row found h named
 
 -- rows of other names

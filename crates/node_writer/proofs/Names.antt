@@ -1,5 +1,6 @@
 -- Names and prefixes of a pool, and those of the table.
-use Rattle.std.proofs.Common.{◌≡◌, ℕ, zero, suc, ◌+◌, ◌-◌, ◌<◌, Bool, true, false, ◌||◌, List, [], ◌∷◌, ◌++◌, length, Some, None, get_or, refl, ap, sym, ◌∙◌, subst, arith, length-append, inl, inr, ◌⊎◌}
+use Rattle.std.proofs.Common.{◌≡◌, ℕ, zero, suc, ◌+◌, ◌-◌, ◌<◌, Bool, true, false, ◌||◌, List, [], ◌∷◌, ◌++◌, length, Some, None, get_or, refl, ap}
+use Rattle.std.proofs.Common.{sym, ◌∙◌, subst, arith, length-append, inl, inr, ◌⊎◌}
 use Rattle.std.specs.List.{slice_get}
 use Rattle.std.specs.Str.{bytes_eq}
 use Rattle.std.proofs.lemmas.Bool.{cases_Bool, cases_lt, cases_eq, and_parts, and_from, eqb-true, eq-eqb, false≢true}
@@ -133,18 +134,21 @@ module _ (c d : Columns) (fuller : IsFuller c d) where
     text = name_same c d fuller 1 (omega (arith, s.count)) ∙ s.text;
     comment = name_same c d fuller 2 (omega (arith, s.count)) ∙ s.comment;
     spelled = λ k other h. elim (pushed names name other k h) [
-      | inl o ↦ subst (λ q. SpellsName d q other) (sym (name_same c d fuller (3 + k) (omega (arith, s.count, slice_get_within names k other o)))) (spells_name_still c d fuller (name_at c (3 + k)) other (s.spelled k other o))
+      | inl o ↦ subst (λ q. SpellsName d q other) (sym (name_same c d fuller (3 + k) (omega (arith, s.count, slice_get_within names k other o))))
+          (spells_name_still c d fuller (name_at c (3 + k)) other (s.spelled k other o))
       | inr n ↦
           let at : name_at d (3 + k) ≡ place = ap (λ xs. get_or xs (3 + k) no_name) e ∙ get_or_at c.names place [] no_name (3 + k) (omega (arith, s.count, n.0)) in
           subst (λ q. SpellsName d q other) (sym at) (subst (λ m. SpellsName d place m) (n.1) p)
     ];
   }
 
-  pub prefixes_pushed : (prefixes : List (List ℕ)) (place : PrefixPlace) (prefix : List ℕ) → PrefixesStand c prefixes → d.prefixes ≡ c.prefixes ++ place ∷ [] → SpellsPrefix d place prefix → PrefixesStand d (prefixes ++ prefix ∷ [])
+  pub prefixes_pushed : (prefixes : List (List ℕ)) (place : PrefixPlace) (prefix : List ℕ) → PrefixesStand c prefixes → d.prefixes ≡ c.prefixes ++ place ∷ []
+      → SpellsPrefix d place prefix → PrefixesStand d (prefixes ++ prefix ∷ [])
   prefixes_pushed prefixes place prefix s e p = record {
     count = omega (arith, ap length e, length-append c.prefixes (place ∷ []), length-append prefixes (prefix ∷ []), s.count);
     spelled = λ k other h. elim (pushed ([] ∷ prefixes) prefix other k h) [
-      | inl o ↦ subst (λ q. SpellsPrefix d q other) (sym (prefix_same c d fuller k (omega (arith, s.count, slice_get_within ([] ∷ prefixes) k other o)))) (spells_prefix_still c d fuller (prefix_at c k) other (s.spelled k other o))
+      | inl o ↦ subst (λ q. SpellsPrefix d q other) (sym (prefix_same c d fuller k (omega (arith, s.count, slice_get_within ([] ∷ prefixes) k other o))))
+          (spells_prefix_still c d fuller (prefix_at c k) other (s.spelled k other o))
       | inr n ↦
           let at : prefix_at d k ≡ place = ap (λ xs. get_or xs k no_prefix) e ∙ get_or_at c.prefixes place [] no_prefix k (omega (arith, s.count, n.0)) in
           subst (λ q. SpellsPrefix d q other) (sym at) (subst (λ m. SpellsPrefix d place m) (n.1) p)
@@ -172,11 +176,13 @@ next_spells c d name e =
       uri = ap (λ t. slice_of t (text_place (length c.texts)) (length name.uri)) (e ∙ placed_grows (padded c.texts ++ name.uri) name.local)
           ∙ slice_at (padded c.texts) name.uri (gap_of (padded c.texts ++ name.uri) ++ name.local) (text_place (length c.texts)) (length name.uri) (sym (padded-length c.texts)) refl;
       local = ap (λ t. slice_of t (text_place (text_place (length c.texts) + length name.uri)) (length name.local)) e
-          ∙ slice_end (padded (padded c.texts ++ name.uri)) name.local (text_place (text_place (length c.texts) + length name.uri)) (length name.local) (sym (padded-length (padded c.texts ++ name.uri) ∙ ap text_place first)) refl;
+          ∙ slice_end (padded (padded c.texts ++ name.uri)) name.local (text_place (text_place (length c.texts) + length name.uri)) (length name.local)
+          (sym (padded-length (padded c.texts ++ name.uri) ∙ ap text_place first)) refl;
     }
 
 -- a name that the pool doesn't have is new to the table
-pub next_is_fresh : (c d : Columns) (names : List Name) (name : Name) → IsFuller c d → NamesStand c names → d.names ≡ c.names → d.texts ≡ name_texts c.texts name.uri name.local → has_name name.kind ≡ true
+pub next_is_fresh : (c d : Columns) (names : List Name) (name : Name) → IsFuller c d → NamesStand c names → d.names ≡ c.names → d.texts ≡ name_texts c.texts name.uri name.local
+    → has_name name.kind ≡ true
     → ((k : ℕ) → slice_get names k ≡ Some name → ⊥) → IsFresh d (name_next c name.kind name.uri name.local)
 next_is_fresh c d names name fuller s e t h absent id l same =
     let stand = names_still c d fuller names s e in

@@ -1,5 +1,6 @@
 -- A name or a prefix that the pool has numbered, in the table.
-use Rattle.std.proofs.Common.{◌≡◌, ◌≢◌, ℕ, zero, suc, ◌+◌, ◌-◌, ◌*◌, ◌<◌, ◌≤◌, ◌^◌, Bool, true, false, cond, ◌||◌, List, [], ◌∷◌, ◌++◌, length, Some, refl, ap, sym, ◌∙◌, subst, arith, append-nil, length-append, inl, inr}
+use Rattle.std.proofs.Common.{◌≡◌, ◌≢◌, ℕ, zero, suc, ◌+◌, ◌-◌, ◌*◌, ◌<◌, ◌≤◌, ◌^◌, Bool, true, false, cond, ◌||◌, List, [], ◌∷◌, ◌++◌, length, Some}
+use Rattle.std.proofs.Common.{refl, ap, sym, ◌∙◌, subst, arith, append-nil, length-append, inl, inr}
 use Rattle.std.specs.List.{slice_get}
 use Rattle.std.proofs.lemmas.Bool.{cases_Bool}
 use Rattle.std.proofs.lemmas.List.{get_or_at}
@@ -39,7 +40,8 @@ module _ (filler : Filler) (limits : Limits) (c : Columns) (stands : FillerStand
   new_name_fits fits new =
       let e = added_new filler.pool.names name new in
       let len : length (name_added filler.pool.names name) ≡ suc (length filler.pool.names) = ap length e ∙ length-append filler.pool.names (name ∷ []) ∙ omega arith in
-      let size : name_bytes (name_added filler.pool.names name) ≡ name_bytes filler.pool.names + (length name.uri + length name.local) = ap name_bytes e ∙ sum_by_push (λ (n : Name). length n.uri + length n.local) filler.pool.names name in
+      let size : name_bytes (name_added filler.pool.names name) ≡ name_bytes filler.pool.names + (length name.uri + length name.local) =
+      ap name_bytes e ∙ sum_by_push (λ (n : Name). length n.uri + length n.local) filler.pool.names name in
       let counted : filler.text + (length name.uri + length name.local) ≤ limits.text = omega (arith, fits.text, size) in
       let slots : ℕ = filler.rows + 2 * length filler.pool.names + length filler.pool.prefixes in
       record {
@@ -103,19 +105,51 @@ module _ (filler : Filler) (limits : Limits) (c : Columns) (stands : FillerStand
 
   -- the filler after a new name
   pub new_name_filled : (pool : Pool) (later : Filler) (cells after : Cells) → cells.columns ≡ c → IsNew filler.pool.names name → pool ≡ with_name filler.pool name
-      → later ≡ record { pool = pool; text = filler.text + length name.uri + length name.local; at = text_place (text_place filler.at + length name.uri) + length name.local; rows = filler.rows; types = filler.types + 1; prefixes = filler.prefixes }
+      → later ≡ record {
+        pool = pool;
+        text = filler.text + length name.uri + length name.local;
+        at = text_place (text_place filler.at + length name.uri) + length name.local;
+        rows =
+            filler.rows;
+        types = filler.types + 1;
+        prefixes = filler.prefixes;
+      }
       → after ≡ with_new_name cells name.kind name.uri name.local → NameFilled filler later limits after.columns name
   new_name_filled pool later cells after ce new pe le ae =
       let d : Columns = record { texts = name_texts c.texts name.uri name.local; names = c.names ++ name_next c name.kind name.uri name.local ∷ []; prefixes = c.prefixes; places = c.places } in
       let de : after.columns ≡ d = ap (λ (t : Cells). t.columns) ae ∙ ap (λ (t : Columns). (with_new_name (record { columns = t; steps = cells.steps }) name.kind name.uri name.local).columns) ce in
-      let full : IsFuller c d = record { texts = (_, name_texts_grow c.texts name.uri name.local); names = (name_next c name.kind name.uri name.local ∷ [], refl); prefixes = ([], sym (append-nil _)) } in
+      let full : IsFuller c d = record {
+        texts = (_, name_texts_grow c.texts name.uri name.local);
+        names = (name_next c name.kind name.uri name.local ∷ [], refl);
+        prefixes =
+            ([], sym (append-nil _));
+      } in
       let len : length d.texts ≡ text_place (text_place (length c.texts) + length name.uri) + length name.local = name_texts-length c.texts name.uri name.local in
       let more : length (filler.pool.names ++ name ∷ []) ≡ length filler.pool.names + 1 = length-append filler.pool.names (name ∷ []) in
       let count : length d.names ≡ suc (length c.names) = length-append c.names (name_next c name.kind name.uri name.local ∷ []) ∙ omega arith in
-      let wanted : Filler = record { pool = with_name filler.pool name; text = filler.text + length name.uri + length name.local; at = text_place (text_place filler.at + length name.uri) + length name.local; rows = filler.rows; types = filler.types + 1; prefixes = filler.prefixes } in
-      let made : later ≡ wanted = le ∙ ap (λ (p : Pool). let r : Filler = record { pool = p; text = filler.text + length name.uri + length name.local; at = text_place (text_place filler.at + length name.uri) + length name.local; rows = filler.rows; types = filler.types + 1; prefixes = filler.prefixes } in r) pe in
+      let wanted : Filler = record {
+        pool = with_name filler.pool name;
+        text = filler.text + length name.uri + length name.local;
+        at =
+            text_place (text_place filler.at + length name.uri) + length name.local;
+        rows = filler.rows;
+        types = filler.types + 1;
+        prefixes = filler.prefixes;
+      } in
+      let made : later ≡ wanted = le
+      ∙ ap (λ (p : Pool). let r : Filler =
+      record {
+        pool = p;
+        text = filler.text + length name.uri + length name.local;
+        at = text_place (text_place filler.at + length name.uri) + length name.local;
+        rows =
+            filler.rows;
+        types = filler.types + 1;
+        prefixes = filler.prefixes;
+      } in r) pe in
       let e = added_new filler.pool.names name new in
-      let size : name_bytes (filler.pool.names ++ name ∷ []) ≡ name_bytes filler.pool.names + (length name.uri + length name.local) = sum_by_push (λ (n : Name). length n.uri + length n.local) filler.pool.names name in
+      let size : name_bytes (filler.pool.names ++ name ∷ []) ≡ name_bytes filler.pool.names + (length name.uri + length name.local) =
+      sum_by_push (λ (n : Name). length n.uri + length n.local) filler.pool.names name in
       let done : NameFilled filler wanted limits d name = record {
         stands = record {
           at = ap (λ n. text_place (text_place n + length name.uri) + length name.local) stands.at ∙ sym len;
@@ -174,7 +208,8 @@ module _ (filler : Filler) (limits : Limits) (c : Columns) (stands : FillerStand
   new_prefix_fits fits new =
       let e = prefix_added_new filler.pool.prefixes prefix new in
       let len : length (prefix_added filler.pool.prefixes prefix) ≡ suc (length filler.pool.prefixes) = ap length e ∙ length-append filler.pool.prefixes (prefix ∷ []) ∙ omega arith in
-      let size : prefix_bytes (prefix_added filler.pool.prefixes prefix) ≡ prefix_bytes filler.pool.prefixes + length prefix = ap prefix_bytes e ∙ sum_by_push (λ (p : List ℕ). length p) filler.pool.prefixes prefix in
+      let size : prefix_bytes (prefix_added filler.pool.prefixes prefix) ≡ prefix_bytes filler.pool.prefixes + length prefix =
+      ap prefix_bytes e ∙ sum_by_push (λ (p : List ℕ). length p) filler.pool.prefixes prefix in
       let counted : filler.text + length prefix ≤ limits.text = omega (arith, fits.text, size) in
       let slots : ℕ = filler.rows + 2 * length filler.pool.names + length filler.pool.prefixes in
       record {
@@ -220,7 +255,8 @@ module _ (filler : Filler) (limits : Limits) (c : Columns) (stands : FillerStand
       )
   kept_prefix pool n (inr new) ne = absurd (ne (omega (arith, stands.prefix_numbers, stands.prefixes.count, new.1)))
 
-  pub is_new_prefix : (pool : Pool) (n : ℕ) → NumbersPrefix filler.pool pool prefix n → n ≡ filler.prefixes → IsNew ([] ∷ filler.pool.prefixes) prefix × (pool ≡ with_prefix_numbered filler.pool prefix)
+  pub is_new_prefix : (pool : Pool) (n : ℕ) → NumbersPrefix filler.pool pool prefix n → n ≡ filler.prefixes
+      → IsNew ([] ∷ filler.pool.prefixes) prefix × (pool ≡ with_prefix_numbered filler.pool prefix)
   is_new_prefix pool n (inl old) e = absurd ((old_prefix n (old.0)).0 e)
   is_new_prefix pool n (inr new) e = (new.0, new.2)
 
@@ -236,11 +272,22 @@ module _ (filler : Filler) (limits : Limits) (c : Columns) (stands : FillerStand
       let len : length d.texts ≡ text_place (length c.texts) + length prefix = placed-length c.texts prefix in
       let more : length (filler.pool.prefixes ++ prefix ∷ []) ≡ length filler.pool.prefixes + 1 = length-append filler.pool.prefixes (prefix ∷ []) in
       let count : length d.prefixes ≡ suc (length c.prefixes) = length-append c.prefixes (place ∷ []) ∙ omega arith in
-      let wanted : Filler = record { pool = with_prefix_numbered filler.pool prefix; text = filler.text + length prefix; at = text_place filler.at + length prefix; rows = filler.rows; types = filler.types; prefixes = filler.prefixes + 1 } in
-      let made : later ≡ wanted = le ∙ ap (λ (p : Pool). let r : Filler = record { pool = p; text = filler.text + length prefix; at = text_place filler.at + length prefix; rows = filler.rows; types = filler.types; prefixes = filler.prefixes + 1 } in r) pe in
+      let wanted : Filler = record {
+        pool = with_prefix_numbered filler.pool prefix;
+        text = filler.text + length prefix;
+        at = text_place filler.at + length prefix;
+        rows =
+            filler.rows;
+        types = filler.types;
+        prefixes = filler.prefixes + 1;
+      } in
+      let made : later ≡ wanted = le
+      ∙ ap (λ (p : Pool). let r : Filler =
+      record { pool = p; text = filler.text + length prefix; at = text_place filler.at + length prefix; rows = filler.rows; types = filler.types; prefixes = filler.prefixes + 1 } in r) pe in
       let e = prefix_added_new filler.pool.prefixes prefix new in
       let size : prefix_bytes (filler.pool.prefixes ++ prefix ∷ []) ≡ prefix_bytes filler.pool.prefixes + length prefix = sum_by_push (λ (p : List ℕ). length p) filler.pool.prefixes prefix in
-      let spells : SpellsPrefix d place prefix = record { fits = omega (arith, len); text = slice_end (padded c.texts) prefix (text_place (length c.texts)) (length prefix) (sym (padded-length c.texts)) refl } in
+      let spells : SpellsPrefix d place prefix =
+      record { fits = omega (arith, len); text = slice_end (padded c.texts) prefix (text_place (length c.texts)) (length prefix) (sym (padded-length c.texts)) refl } in
       let at : prefix_at d filler.prefixes ≡ place = get_or_at c.prefixes place [] no_prefix filler.prefixes (sym stands.prefix_numbers) in
       let done : PrefixFilled filler wanted limits d prefix = record {
         stands = record {

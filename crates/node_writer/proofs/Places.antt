@@ -29,7 +29,8 @@ pub words_few : (limits : Limits) → limits.text < 2 ^ 32 → limits.rows < 2 ^
 words_few limits t r n = omega arith
 
 -- a text that the limits allow has room, as the gaps before it are fewer than the rows and names
-pub text_room : (limits : Limits) (at text slots bytes : ℕ) → at ≤ text + 6 * slots → text + bytes ≤ limits.text → slots + 1 ≤ limits.rows + 2 * limits.names → text_place at + bytes ≤ 7 * text_words limits
+pub text_room : (limits : Limits) (at text slots bytes : ℕ) → at ≤ text + 6 * slots → text + bytes ≤ limits.text → slots + 1 ≤ limits.rows + 2 * limits.names
+    → text_place at + bytes ≤ 7 * text_words limits
 text_room limits at text slots bytes g t s = omega (arith, place_near at)
 
 -- two texts one behind the other

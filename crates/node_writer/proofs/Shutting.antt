@@ -26,7 +26,8 @@ stack_some w limits cells s e =
 member_first : (n : ℕ) (os : List ℕ) → is_member n (n ∷ os) ≡ true
 member_first n os = ap (λ b. b || is_member n os) (eq-eqb n n refl)
 
-module _ (w : NodeWriter) (limits : Limits) (cells : Cells) (s : Stands w limits cells) (e : (document_of cells.steps).ended ≡ None) (may : CanStep (document_of cells.steps) Shut) (outer : List OpenRow) (one : OpenRow) (split : w.stack ≡ outer ++ one ∷ []) where
+module _ (w : NodeWriter) (limits : Limits) (cells : Cells) (s : Stands w limits cells) (e : (document_of cells.steps).ended ≡ None) (may : CanStep (document_of cells.steps) Shut)
+    (outer : List OpenRow) (one : OpenRow) (split : w.stack ≡ outer ++ one ∷ []) where
   top_open : (document_of cells.steps).opened ≡ one.row ∷ rows_opened outer []
   top_open = shut_innermost w.stack outer one (document_of cells.steps).opened split (s.stack e).rows
 
@@ -51,5 +52,6 @@ module _ (w : NodeWriter) (limits : Limits) (cells : Cells) (s : Stands w limits
         names = s.names ∙ ap names_of (sym rows);
         prefixes = s.prefixes ∙ ap prefixes_of (sym rows);
         text = s.text ∙ ap text_bytes (sym rows);
-        stack = λ h. subst (λ (d : Document). StackStands cells.columns d.rows outer d.opened) (sym push) (shut_stands cells.columns (rows_of cells.steps) w.stack outer one (document_of cells.steps).opened split (s.stack e));
+        stack = λ h. subst (λ (d : Document). StackStands cells.columns d.rows outer d.opened) (sym push)
+            (shut_stands cells.columns (rows_of cells.steps) w.stack outer one (document_of cells.steps).opened split (s.stack e));
       }

@@ -1,5 +1,6 @@
 -- The open rows after a join and a shut.
-use Rattle.std.proofs.Common.{◌≡◌, ℕ, zero, suc, ◌+◌, ◌-◌, ◌<◌, ◌≤◌, cond, List, [], ◌∷◌, ◌++◌, length, Some, None, get_or, set, refl, ap, sym, ◌∙◌, subst, arith, append-nil, length-append, length-set, inl, inr}
+use Rattle.std.proofs.Common.{◌≡◌, ℕ, zero, suc, ◌+◌, ◌-◌, ◌<◌, ◌≤◌, cond, List, [], ◌∷◌, ◌++◌, length, Some, None, get_or, set, refl, ap, sym, ◌∙◌}
+use Rattle.std.proofs.Common.{subst, arith, append-nil, length-append, length-set, inl, inr}
 use Rattle.std.proofs.lemmas.Bool.{cases_Bool, and_parts, cases_lt, cases_eq, eq-eqb, ne_eqb}
 use Rattle.std.proofs.lemmas.List.{get_or-set_same, get_or-set_other, get_or_append_left, get_or_at}
 use Rattle.doc_model.specs.declared.places.RowPlace.{RowPlace}
@@ -81,7 +82,8 @@ joined_children rows (m ∷ os) o row attributes s j i = (
   λ n ne. children_join rows m os row attributes s j n ∙ ap (λ b. children_of rows n ++ cond b (length rows ∷ []) []) (ne_eqb m n (λ e. ne (sym i ∙ e))) ∙ append-nil (children_of rows n),
 )
 
-module _ (c d : Columns) (rows : List Row) (stack : List OpenRow) (opened : List ℕ) (row : Row) (attributes : List Row) (stands : StackStands c rows stack opened) (of : StackOf rows opened) (joins : CanJoin opened row attributes) (some : 0 < length stack) (n : ℕ) (next : n ≡ length rows) (more : List RowPlace) (grown : d.places ≡ c.places ++ more) where
+module _ (c d : Columns) (rows : List Row) (stack : List OpenRow) (opened : List ℕ) (row : Row) (attributes : List Row) (stands : StackStands c rows stack opened)
+    (of : StackOf rows opened) (joins : CanJoin opened row attributes) (some : 0 < length stack) (n : ℕ) (next : n ≡ length rows) (more : List RowPlace) (grown : d.places ≡ c.places ++ more) where
   innermost_here : IsInnermost opened (innermost stack).row
   innermost_here = subst (λ os. IsInnermost os (innermost stack).row) (sym stands.rows) (innermost_is stack some)
 
@@ -90,7 +92,9 @@ module _ (c d : Columns) (rows : List Row) (stack : List OpenRow) (opened : List
 
   child_row : (k : ℕ) → k < length stack → (open_at (with_child stack n) k).row ≡ (open_at stack k).row
   child_row k l = elim (cases_eq k (length stack - 1)) [
-    | inl e ↦ ap (λ (o : OpenRow). o.row) (ap (open_at (with_child stack n)) e ∙ get_or-set_same stack (length stack - 1) (record { row = (innermost stack).row; last = Some n }) open_root (omega arith)) ∙ ap (λ j. (open_at stack j).row) (sym e)
+    | inl e ↦ ap (λ (o : OpenRow). o.row)
+        (ap (open_at (with_child stack n)) e ∙ get_or-set_same stack (length stack - 1) (record { row = (innermost stack).row; last = Some n }) open_root (omega arith))
+        ∙ ap (λ j. (open_at stack j).row) (sym e)
     | inr ne ↦ ap (λ (o : OpenRow). o.row) (get_or-set_other stack (length stack - 1) k (record { row = (innermost stack).row; last = Some n }) open_root ne)
   ]
 
@@ -99,7 +103,8 @@ module _ (c d : Columns) (rows : List Row) (stack : List OpenRow) (opened : List
       let j = joined_children rows opened (innermost stack).row row attributes of joins innermost_here in
       elim (cases_eq k (length stack - 1)) [
         | inl e ↦
-            ap (λ (o : OpenRow). o.last) (ap (open_at (with_child stack n)) e ∙ get_or-set_same stack (length stack - 1) (record { row = (innermost stack).row; last = Some n }) open_root (omega arith))
+            ap (λ (o : OpenRow). o.last) (ap (open_at (with_child stack n)) e
+            ∙ get_or-set_same stack (length stack - 1) (record { row = (innermost stack).row; last = Some n }) open_root (omega arith))
             ∙ ap (λ m. Some m) next ∙ sym (j.0) ∙ ap (λ m. last_of (children_of (rows ++ row ∷ attributes) (open_at stack m).row)) (sym e)
         | inr ne ↦
             let apart : (innermost stack).row ≡ (open_at stack k).row → ⊥ = λ e.
@@ -124,10 +129,12 @@ module _ (c d : Columns) (rows : List Row) (stack : List OpenRow) (opened : List
       }
 
   -- the stack after a Node whose row is row n
-  pub joined_stands : (place_at d n).depth ≡ row.depth → n < length d.places → StackStands d (rows ++ row ∷ attributes) (with_joined stack n row.kind) (cond (is_parent row.kind) (length rows ∷ opened) opened)
+  pub joined_stands : (place_at d n).depth ≡ row.depth → n < length d.places
+      → StackStands d (rows ++ row ∷ attributes) (with_joined stack n row.kind) (cond (is_parent row.kind) (length rows ∷ opened) opened)
   joined_stands deep there = elim (cases_Bool (is_parent row.kind)) [
     | inr e ↦
-        subst (λ b. StackStands d (rows ++ row ∷ attributes) (cond b (with_child stack n ++ record { row = n; last = None } ∷ []) (with_child stack n)) (cond b (length rows ∷ opened) opened)) (sym e) child_stands
+        subst (λ b. StackStands d (rows ++ row ∷ attributes) (cond b (with_child stack n ++ record { row = n; last = None } ∷ []) (with_child stack n))
+        (cond b (length rows ∷ opened) opened)) (sym e) child_stands
     | inl e ↦
         subst (λ b. StackStands d (rows ++ row ∷ attributes) (cond b (with_child stack n ++ record { row = n; last = None } ∷ []) (with_child stack n)) (cond b (length rows ∷ opened) opened)) (sym e)
         (pushed_stands d (rows ++ row ∷ attributes) (with_child stack n) opened n (length rows) next child_stands there
@@ -135,12 +142,15 @@ module _ (c d : Columns) (rows : List Row) (stack : List OpenRow) (opened : List
         (new_children rows opened row attributes of joins n next (innermost stack).row innermost_here))
   ]
     where
-      new_children : (rows : List Row) (opened : List ℕ) (row : Row) (attributes : List Row) → StackOf rows opened → CanJoin opened row attributes → (n : ℕ) → n ≡ length rows → (o : ℕ) → IsInnermost opened o → children_of (rows ++ row ∷ attributes) n ≡ []
+      new_children : (rows : List Row) (opened : List ℕ) (row : Row) (attributes : List Row) → StackOf rows opened → CanJoin opened row attributes → (n : ℕ) → n ≡ length rows
+          → (o : ℕ) → IsInnermost opened o → children_of (rows ++ row ∷ attributes) n ≡ []
       new_children rows [] row attributes s j n e o i = absurd i
       new_children rows (m ∷ os) row attributes s j n e o i =
-          children_join rows m os row attributes s j n ∙ ap (λ b. children_of rows n ++ cond b (length rows ∷ []) []) (ne_eqb m n (λ q. omega (arith, s.0.within, q, e))) ∙ append-nil (children_of rows n) ∙ no_children rows n (omega (arith, e))
+          children_join rows m os row attributes s j n ∙ ap (λ b. children_of rows n ++ cond b (length rows ∷ []) []) (ne_eqb m n (λ q. omega (arith, s.0.within, q, e)))
+          ∙ append-nil (children_of rows n) ∙ no_children rows n (omega (arith, e))
 
-      pushed_stands : (d : Columns) (rows : List Row) (stack : List OpenRow) (opened : List ℕ) (n m : ℕ) → n ≡ m → StackStands d rows stack opened → n < length d.places → (place_at d n).depth ≡ length stack → children_of rows n ≡ [] → StackStands d rows (stack ++ record { row = n; last = None } ∷ []) (m ∷ opened)
+      pushed_stands : (d : Columns) (rows : List Row) (stack : List OpenRow) (opened : List ℕ) (n m : ℕ) → n ≡ m → StackStands d rows stack opened → n < length d.places
+          → (place_at d n).depth ≡ length stack → children_of rows n ≡ [] → StackStands d rows (stack ++ record { row = n; last = None } ∷ []) (m ∷ opened)
       pushed_stands d rows stack opened n m e s there deep none =
           let one : OpenRow = record { row = n; last = None } in
           let len : length (stack ++ one ∷ []) ≡ suc (length stack) = length-append stack (one ∷ []) ∙ omega arith in
@@ -150,7 +160,8 @@ module _ (c d : Columns) (rows : List Row) (stack : List OpenRow) (opened : List
             rows = ap (λ x. x ∷ opened) (sym e) ∙ ap (λ xs. n ∷ xs) s.rows ∙ sym (rows_opened-push stack one []);
             within = λ k l. elim (cases_lt k (length stack)) [
               | inl lt ↦ subst (λ (o : OpenRow). o.row < length d.places) (sym (old k lt)) (s.within k lt)
-              | inr ge ↦ let q : length stack ≡ k = omega (arith, len) in subst (λ j. (open_at (stack ++ one ∷ []) j).row < length d.places) q (subst (λ (o : OpenRow). o.row < length d.places) (sym last) there)
+              | inr ge ↦ let q : length stack ≡ k =
+                  omega (arith, len) in subst (λ j. (open_at (stack ++ one ∷ []) j).row < length d.places) q (subst (λ (o : OpenRow). o.row < length d.places) (sym last) there)
             ];
             depths = λ k l. elim (cases_lt k (length stack)) [
               | inl lt ↦ ap (λ (o : OpenRow). (place_at d o.row).depth) (old k lt) ∙ s.depths k lt
@@ -169,7 +180,8 @@ tail_stack : (one : ℕ) (os opened : List ℕ) → opened ≡ one ∷ os → ta
 tail_stack one os opened e = ap tail_of e
 
 -- the stack after a Shut
-pub shut_stands : (c : Columns) (rows : List Row) (stack outer : List OpenRow) (one : OpenRow) (opened : List ℕ) → stack ≡ outer ++ one ∷ [] → StackStands c rows stack opened → StackStands c rows outer (tail_of opened)
+pub shut_stands : (c : Columns) (rows : List Row) (stack outer : List OpenRow) (one : OpenRow) (opened : List ℕ) → stack ≡ outer ++ one ∷ [] → StackStands c rows stack opened
+    → StackStands c rows outer (tail_of opened)
 shut_stands c rows stack outer one opened e s =
     let len : length stack ≡ suc (length outer) = ap length e ∙ length-append outer (one ∷ []) ∙ omega arith in
     let old : (k : ℕ) → k < length outer → open_at stack k ≡ open_at outer k = λ k l. ap (λ xs. open_at xs k) e ∙ get_or_append_left outer (one ∷ []) open_root k l in

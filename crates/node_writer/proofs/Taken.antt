@@ -6,7 +6,8 @@ use Rattle.doc_model.specs.declared.limits.Limits.{Limits}
 use Rattle.doc_model.specs.declared.row.Row.{Row}
 use Rattle.doc_model.specs.Legible.{is_empty}
 use Rattle.name_pool.specs.Names.{Name}
-use Rattle.node_writer.specs.Taken.{is_name_of, is_prefix_of, has_name, name_of_row, names_with, names_from, names_of, prefixes_with, prefixes_from, prefixes_of, name_bytes, prefix_bytes, value_bytes, HasRoom}
+use Rattle.node_writer.specs.Taken.{is_name_of, is_prefix_of, has_name, name_of_row, names_with, names_from, names_of, prefixes_with, prefixes_from}
+use Rattle.node_writer.specs.Taken.{prefixes_of, name_bytes, prefix_bytes, value_bytes, HasRoom}
 
 pub names_from-append : (names : List Name) (xs ys : List Row) → names_from names (xs ++ ys) ≡ names_from (names_from names xs) ys
 names_from-append names [] ys = refl
@@ -28,8 +29,16 @@ pub names_with_more : (names : List Name) (row : Row) → (more : List Name) × 
 names_with_more names row = elim (cases_Bool (has_name row.kind)) [
   | inr e ↦ ([], ap (λ b. cond b (cond (is_name_of (name_of_row row) names) names (names ++ name_of_row row ∷ [])) names) e ∙ sym (append-nil names))
   | inl e ↦ elim (cases_Bool (is_name_of (name_of_row row) names)) [
-    | inl f ↦ ([], ap (λ b. cond b (cond (is_name_of (name_of_row row) names) names (names ++ name_of_row row ∷ [])) names) e ∙ ap (λ b. cond b names (names ++ name_of_row row ∷ [])) f ∙ sym (append-nil names))
-    | inr f ↦ (name_of_row row ∷ [], ap (λ b. cond b (cond (is_name_of (name_of_row row) names) names (names ++ name_of_row row ∷ [])) names) e ∙ ap (λ b. cond b names (names ++ name_of_row row ∷ [])) f)
+    | inl f ↦ (
+      [],
+      ap (λ b. cond b (cond (is_name_of (name_of_row row) names) names (names ++ name_of_row row ∷ [])) names) e
+          ∙ ap (λ b. cond b names (names ++ name_of_row row ∷ [])) f ∙ sym (append-nil names),
+    )
+    | inr f ↦ (
+      name_of_row row ∷ [],
+      ap (λ b. cond b (cond (is_name_of (name_of_row row) names) names (names ++ name_of_row row ∷ [])) names) e
+          ∙ ap (λ b. cond b names (names ++ name_of_row row ∷ [])) f,
+    )
   ]
 ]
 
@@ -68,8 +77,10 @@ less_first xs ys =
     let p = prefixes_from_more (prefixes_of xs) ys in
     let ne : names_of (xs ++ ys) ≡ names_of xs ++ n.0 = names_from-append [] xs ys ∙ n.1 in
     let pe : prefixes_of (xs ++ ys) ≡ prefixes_of xs ++ p.0 = prefixes_from-append [] xs ys ∙ p.1 in
-    let nb : name_bytes (names_of (xs ++ ys)) ≡ name_bytes (names_of xs) + name_bytes (n.0) = ap name_bytes ne ∙ sum_by-append (λ (name : Name). length name.uri + length name.local) (names_of xs) (n.0) in
-    let pb : prefix_bytes (prefixes_of (xs ++ ys)) ≡ prefix_bytes (prefixes_of xs) + prefix_bytes (p.0) = ap prefix_bytes pe ∙ sum_by-append (λ (prefix : List ℕ). length prefix) (prefixes_of xs) (p.0) in
+    let nb : name_bytes (names_of (xs ++ ys)) ≡ name_bytes (names_of xs) + name_bytes (n.0) =
+    ap name_bytes ne ∙ sum_by-append (λ (name : Name). length name.uri + length name.local) (names_of xs) (n.0) in
+    let pb : prefix_bytes (prefixes_of (xs ++ ys)) ≡ prefix_bytes (prefixes_of xs) + prefix_bytes (p.0) =
+    ap prefix_bytes pe ∙ sum_by-append (λ (prefix : List ℕ). length prefix) (prefixes_of xs) (p.0) in
     let vb : value_bytes (xs ++ ys) ≡ value_bytes xs + value_bytes ys = sum_by-append (λ (row : Row). length row.value) xs ys in
     record {
       rows = omega (arith, length-append xs ys);

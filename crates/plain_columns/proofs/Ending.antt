@@ -25,7 +25,8 @@ use Rattle.plain_columns.specs.Spelled.{Spelled, WordsHold, Placed, FewSteps}
 use Rattle.doc_laws.proofs.Growth.{document_of-push}
 use Rattle.doc_laws.proofs.Ends.{lawful_push}
 
-good_extents : (rows : List Row) (opened : List ℕ) (extent : List ℕ) → StackOf rows opened → IsOpenAt rows zero zero → length opened ≡ 1 → 0 < length extent → ExtentsHold rows opened extent → ExtentsHold rows [] (set extent 0 (extent_of rows zero))
+good_extents : (rows : List Row) (opened : List ℕ) (extent : List ℕ) → StackOf rows opened → IsOpenAt rows zero zero → length opened ≡ 1 → 0 < length extent
+    → ExtentsHold rows opened extent → ExtentsHold rows [] (set extent 0 (extent_of rows zero))
 good_extents rows [] extent s r l f x = absurd (omega arith)
 good_extents rows (o ∷ p ∷ os) extent s r l f x = absurd (omega arith)
 good_extents rows (o ∷ []) extent s r l f x =
@@ -36,7 +37,8 @@ good_extents rows (o ∷ []) extent s r l f x =
     zero_is : (o : ℕ) → is_member 0 (o ∷ []) ≡ true → 0 ≡ o
     zero_is o m = elim (or_cases (eqb 0 o) false m) [ inl e ↦ eqb-true 0 o e | inr e ↦ absurd (false≢true e) ]
 
-end_extents : (v : Verdict) (rows : List Row) (opened : List ℕ) (extent : List ℕ) → StackOf rows opened → IsOpenAt rows zero zero → CanEnd v opened → 0 < length extent → ExtentsHold rows opened extent → ExtentsHold rows (open_after v opened) (extent_after v (extent_of rows zero) extent)
+end_extents : (v : Verdict) (rows : List Row) (opened : List ℕ) (extent : List ℕ) → StackOf rows opened → IsOpenAt rows zero zero → CanEnd v opened → 0 < length extent
+    → ExtentsHold rows opened extent → ExtentsHold rows (open_after v opened) (extent_after v (extent_of rows zero) extent)
 end_extents Good rows opened extent s r c f x = good_extents rows opened extent s r c f x
 end_extents (Bad q) rows opened extent s r c f x = x
 end_extents Failed rows opened extent s r c f x = x
@@ -53,7 +55,8 @@ words_end c steps v count first next extent w h j e f =
     record {
       lawful = lawful_push steps (end_step v) h.lawful j.going j.may;
       links = subst (λ (q : Document). LinksHold q.rows first next) (sym r) h.links;
-      extents = subst (λ (q : Document). ExtentsHold q.rows q.opened (extent_after v count extent)) (sym r) (rw n (end_extents v (rows_of steps) (document_of steps).opened extent s (root_at steps h.lawful) j.may f h.extents));
+      extents = subst (λ (q : Document). ExtentsHold q.rows q.opened (extent_after v count extent)) (sym r)
+          (rw n (end_extents v (rows_of steps) (document_of steps).opened extent s (root_at steps h.lawful) j.may f h.extents));
       ended = sym (ap (λ (q : Document). q.ended) r);
     }
 
@@ -94,7 +97,8 @@ pub start_spelled : Spelled empty_cells.columns []
 start_spelled = record {
   names = λ k l. names k l;
   prefixes = λ k l. let z : k ≡ 0 = omega arith in subst (λ j. PrefixFits empty_cells.columns (get_or empty_cells.columns.prefixes j no_prefix)) (sym z) (omega arith);
-  rows = λ k l. let z : k ≡ 0 = omega arith in subst (λ j. RowFits empty_cells.columns (place_at empty_cells.columns j)) (sym z) (record { type = omega arith; prefix = omega arith; text = omega arith; parent = omega arith; prev = tt; kind = refl });
+  rows = λ k l. let z : k ≡ 0 = omega arith in subst (λ j. RowFits empty_cells.columns (place_at empty_cells.columns j)) (sym z)
+      (record { type = omega arith; prefix = omega arith; text = omega arith; parent = omega arith; prev = tt; kind = refl });
   entries = tt;
   distinct = distinct;
 }
@@ -124,4 +128,15 @@ start_spelled = record {
     distinct (suc (suc zero)) (suc (suc (suc k))) l m s = absurd (omega arith)
 
 pub start_placed : Placed empty_cells.columns [] 1
-start_placed = record { joined = refl; within = omega arith; rows = λ n l. let z : n ≡ 0 = omega arith in subst (λ k. row_at (root_row ∷ []) k ≡ row_of empty_cells.columns (place_at empty_cells.columns k)) (sym z) refl; parents = λ n p l. absurd (omega arith); prevs = λ n l. let z : n ≡ 0 = omega arith in subst (λ k. prev_shown [] (root_row ∷ []) k ≡ (place_at empty_cells.columns k).prev) (sym z) refl; counts = λ n l. let z : n ≡ 0 = omega arith in subst (λ k. attr_count_of (root_row ∷ []) k ≡ (place_at empty_cells.columns k).attr_count) (sym z) refl }
+start_placed = record {
+  joined = refl;
+  within = omega arith;
+  rows = λ n l. let z : n ≡ 0 =
+      omega arith in subst (λ k. row_at (root_row ∷ []) k ≡ row_of empty_cells.columns (place_at empty_cells.columns k)) (sym z) refl;
+  parents =
+      λ n p l. absurd (omega arith);
+  prevs = λ n l. let z : n ≡ 0 =
+      omega arith in subst (λ k. prev_shown [] (root_row ∷ []) k ≡ (place_at empty_cells.columns k).prev) (sym z) refl;
+  counts = λ n l. let z : n ≡ 0 =
+      omega arith in subst (λ k. attr_count_of (root_row ∷ []) k ≡ (place_at empty_cells.columns k).attr_count) (sym z) refl;
+}

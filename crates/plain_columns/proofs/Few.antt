@@ -33,6 +33,8 @@ innermost_within rows (o ∷ os) n s i = omega (arith, s.0.within, i)
 
 pub placed_same : (c : Columns) (p q : List Step) (n : ℕ) → rows_of q ≡ rows_of p → Placed c p n → Placed c q n
 placed_same c p q n e h =
-    let P : List Row → Type 0 = λ rows. (n ≡ length rows) × ((k : ℕ) → k < length rows → row_at rows k ≡ row_of c (place_at c k)) × ((k : ℕ) → 0 < k → k < length rows → parent_of rows k ≡ Some (place_at c k).parent) × ((k : ℕ) → k < length rows → prev_shown [] rows k ≡ (place_at c k).prev) × ((k : ℕ) → k < length rows → attr_count_of rows k ≡ (place_at c k).attr_count) in
+    let P : List Row → Type 0 = λ rows. (n ≡ length rows) × ((k : ℕ) → k < length rows → row_at rows k ≡ row_of c (place_at c k))
+    × ((k : ℕ) → 0 < k → k < length rows → parent_of rows k ≡ Some (place_at c k).parent) × ((k : ℕ) → k < length rows → prev_shown [] rows k ≡ (place_at c k).prev)
+    × ((k : ℕ) → k < length rows → attr_count_of rows k ≡ (place_at c k).attr_count) in
     let t = subst P (sym e) (h.joined, h.rows, h.parents, h.prevs, h.counts) in
     record { joined = t.0; within = h.within; rows = t.1; parents = t.2; prevs = t.3; counts = t.4 }

@@ -34,7 +34,16 @@ module _ (c d : Columns) (fuller : IsFuller c d) where
   name_same id l = ap (λ xs. get_or xs id no_name) (fuller.names.1) ∙ get_or_append_left c.names (fuller.names.0) no_name id l
 
   row_fits : (place : RowPlace) → RowFits c place → RowFits d place
-  row_fits place f = record { prev = some_within place.prev (length c.places) (length d.places) places_grow f.prev; type = omega (arith, f.type, names_grow); prefix = omega (arith, f.prefix, prefixes_grow); text = omega (arith, f.text, texts_grow); parent = omega (arith, f.parent, places_grow); kind = ap (λ (q : NamePlace). q.kind) (name_same place.type_id f.type) ∙ f.kind }
+  row_fits place f = record {
+    prev = some_within place.prev (length c.places) (length d.places) places_grow f.prev;
+    type = omega (arith, f.type, names_grow);
+    prefix =
+        omega (arith, f.prefix, prefixes_grow);
+    text = omega (arith, f.text, texts_grow);
+    parent = omega (arith, f.parent, places_grow);
+    kind =
+        ap (λ (q : NamePlace). q.kind) (name_same place.type_id f.type) ∙ f.kind;
+  }
 
   same_back : (a b : NamePlace) → NameFits c a → NameFits c b → IsSameName d a b → IsSameName c a b
   same_back a b f g s = record {
@@ -91,7 +100,8 @@ module _ (c d : Columns) (fuller : IsFuller c d) where
     ];
     prefixes = λ k l. elim (cases_lt k (length c.prefixes)) [
       | inl lt ↦
-          let e : get_or d.prefixes k no_prefix ≡ get_or c.prefixes k no_prefix = ap (λ xs. get_or xs k no_prefix) (fuller.prefixes.1) ∙ get_or_append_left c.prefixes (fuller.prefixes.0) no_prefix k lt in
+          let e : get_or d.prefixes k no_prefix ≡ get_or c.prefixes k no_prefix =
+          ap (λ xs. get_or xs k no_prefix) (fuller.prefixes.1) ∙ get_or_append_left c.prefixes (fuller.prefixes.0) no_prefix k lt in
           let f = s.prefixes k lt in
           subst (λ q. PrefixFits d q) (sym e) (omega (arith, f, texts_grow))
       | inr ge ↦ hp k ge l
@@ -132,6 +142,11 @@ pub words_more : (steps : List Step) (first next extent : List ℕ) (v : Option 
 words_more steps first next extent v w = record {
   lawful = w.lawful;
   links = record { firsts = λ n. ap link_of (unset_more first n) ∙ w.links.firsts n; nexts = λ n. ap link_of (unset_more next n) ∙ w.links.nexts n };
-  extents = record { unset = λ n h. unset_more extent n ∙ w.extents.unset n h; shut = λ n l p h. unset_more extent n ∙ w.extents.shut n l p h; fresh = λ n l. unset_more extent n ∙ w.extents.fresh n l };
+  extents = record {
+    unset = λ n h. unset_more extent n ∙ w.extents.unset n h;
+    shut = λ n l p h. unset_more extent n ∙ w.extents.shut n l p h;
+    fresh =
+        λ n l. unset_more extent n ∙ w.extents.fresh n l;
+  };
   ended = w.ended;
 }

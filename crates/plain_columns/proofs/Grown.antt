@@ -1,5 +1,6 @@
 -- Filling leaves what is spelled.
-use Rattle.std.proofs.Common.{◌≡◌, ℕ, suc, ◌+◌, ◌<◌, ◌≤◌, List, [], ◌∷◌, ◌++◌, length, Option, take, drop, get_or, map, refl, ap, ap₂, sym, ◌∙◌, arith, append-nil, append_assoc, length-append, length-take, length-drop, get_or-take, get_or-drop}
+use Rattle.std.proofs.Common.{◌≡◌, ℕ, suc, ◌+◌, ◌<◌, ◌≤◌, List, [], ◌∷◌, ◌++◌, length, Option, take, drop, get_or, map, refl, ap, ap₂, sym, ◌∙◌}
+use Rattle.std.proofs.Common.{arith, append-nil, append_assoc, length-append, length-take, length-drop, get_or-take, get_or-drop}
 use Rattle.std.proofs.lemmas.List.{get_or_append_left, take-append-le, drop-append-le}
 use Rattle.doc_model.specs.declared.row.Row.{Row}
 use Rattle.doc_model.specs.declared.step.Step.TheVariants.{Node, Shut as shut_step}
@@ -34,15 +35,20 @@ module _ (c d : Columns) (fuller : IsFuller c d) where
 
   pub row_of_same : (entries : List Entry) → Spelled c entries → (place : RowPlace) → RowFits c place → row_of d place ≡ row_of c place
   row_of_same entries s place f =
-      let n : get_or d.names place.type_id no_name ≡ get_or c.names place.type_id no_name = ap (λ xs. get_or xs place.type_id no_name) (fuller.names.1) ∙ get_or_append_left c.names (fuller.names.0) no_name place.type_id f.type in
-      let p : get_or d.prefixes place.prefix_id no_prefix ≡ get_or c.prefixes place.prefix_id no_prefix = ap (λ xs. get_or xs place.prefix_id no_prefix) (fuller.prefixes.1) ∙ get_or_append_left c.prefixes (fuller.prefixes.0) no_prefix place.prefix_id f.prefix in
+      let n : get_or d.names place.type_id no_name ≡ get_or c.names place.type_id no_name =
+      ap (λ xs. get_or xs place.type_id no_name) (fuller.names.1) ∙ get_or_append_left c.names (fuller.names.0) no_name place.type_id f.type in
+      let p : get_or d.prefixes place.prefix_id no_prefix ≡ get_or c.prefixes place.prefix_id no_prefix =
+      ap (λ xs. get_or xs place.prefix_id no_prefix) (fuller.prefixes.1) ∙ get_or_append_left c.prefixes (fuller.prefixes.0) no_prefix place.prefix_id f.prefix in
       let name : NamePlace = get_or c.names place.type_id no_name in
       let prefix : PrefixPlace = get_or c.prefixes place.prefix_id no_prefix in
       let nf = s.names place.type_id f.type in
       let pf = s.prefixes place.prefix_id f.prefix in
-      let a : slice_of d.texts (get_or d.prefixes place.prefix_id no_prefix).at (get_or d.prefixes place.prefix_id no_prefix).len ≡ slice_of c.texts prefix.at prefix.len = ap (λ (q : PrefixPlace). slice_of d.texts q.at q.len) p ∙ slice_same prefix.at prefix.len pf in
-      let b : slice_of d.texts (get_or d.names place.type_id no_name).uri_at (get_or d.names place.type_id no_name).uri_len ≡ slice_of c.texts name.uri_at name.uri_len = ap (λ (q : NamePlace). slice_of d.texts q.uri_at q.uri_len) n ∙ slice_same name.uri_at name.uri_len nf.uri in
-      let e : slice_of d.texts (get_or d.names place.type_id no_name).local_at (get_or d.names place.type_id no_name).local_len ≡ slice_of c.texts name.local_at name.local_len = ap (λ (q : NamePlace). slice_of d.texts q.local_at q.local_len) n ∙ slice_same name.local_at name.local_len nf.local in
+      let a : slice_of d.texts (get_or d.prefixes place.prefix_id no_prefix).at (get_or d.prefixes place.prefix_id no_prefix).len ≡ slice_of c.texts prefix.at prefix.len =
+      ap (λ (q : PrefixPlace). slice_of d.texts q.at q.len) p ∙ slice_same prefix.at prefix.len pf in
+      let b : slice_of d.texts (get_or d.names place.type_id no_name).uri_at (get_or d.names place.type_id no_name).uri_len ≡ slice_of c.texts name.uri_at name.uri_len =
+      ap (λ (q : NamePlace). slice_of d.texts q.uri_at q.uri_len) n ∙ slice_same name.uri_at name.uri_len nf.uri in
+      let e : slice_of d.texts (get_or d.names place.type_id no_name).local_at (get_or d.names place.type_id no_name).local_len ≡ slice_of c.texts name.local_at name.local_len =
+      ap (λ (q : NamePlace). slice_of d.texts q.local_at q.local_len) n ∙ slice_same name.local_at name.local_len nf.local in
       let v : slice_of d.texts place.text_at place.text_len ≡ slice_of c.texts place.text_at place.text_len = slice_same place.text_at place.text_len f.text in
       cc
 
@@ -60,7 +66,8 @@ module _ (c d : Columns) (fuller : IsFuller c d) where
       let a : map (row_of d) (take m (drop (suc n) c.places)) ≡ map (row_of c) (take m (drop (suc n) c.places)) =
       map_same (row_of d) (row_of c) (take m (drop (suc n) c.places)) (λ k h.
       let lt : length (take m (drop (suc n) c.places)) ≡ m = length-take m (drop (suc n) c.places) ∙ omega (arith, length-drop (suc n) c.places) in
-      let g : get_or (take m (drop (suc n) c.places)) k root_place ≡ place_at c (suc n + k) = get_or-take m (drop (suc n) c.places) k root_place (omega arith) ∙ get_or-drop (suc n) c.places k root_place in
+      let g : get_or (take m (drop (suc n) c.places)) k root_place ≡ place_at c (suc n + k) =
+      get_or-take m (drop (suc n) c.places) k root_place (omega arith) ∙ get_or-drop (suc n) c.places k root_place in
       row_of_same entries s (get_or (take m (drop (suc n) c.places)) k root_place) (rw g (s.rows (suc n + k) (omega arith)))) in
       ap₂ (λ row rows. Node row rows) r (ap (map (row_of d)) cut ∙ a)
 

@@ -37,7 +37,8 @@ pub steps_of-end : (c : Columns) (log : List Entry) (v : Option Verdict) (verdic
 steps_of-end c log None verdict e = refl
 steps_of-end c log (Some v) verdict e = absurd cc
 
-pub how_within : (rows : List Row) (opened : List ℕ) (parent : ℕ) (how : How) → StackOf rows opened → IsInnermost opened parent → how ≡ how_of parent (last_of (children_of rows parent)) → (first next : ℕ) → length rows ≤ first → length rows ≤ next → HowWithin how first next
+pub how_within : (rows : List Row) (opened : List ℕ) (parent : ℕ) (how : How) → StackOf rows opened → IsInnermost opened parent
+    → how ≡ how_of parent (last_of (children_of rows parent)) → (first next : ℕ) → length rows ≤ first → length rows ≤ next → HowWithin how first next
 how_within rows [] parent how s i h first next f n = absurd i
 how_within rows (o ∷ os) parent how s i h first next f n = rw h (go (last_of (children_of rows parent)) refl)
   where
@@ -59,7 +60,8 @@ join_links : (rows : List Row) (opened : List ℕ) (row : Row) (attributes : Lis
 join_links rows [] row attributes parent how first next s j i h f n l = absurd i
 join_links rows (o ∷ os) row attributes parent how first next s j i h f n l =
     let e : how ≡ how_of o (last_of (children_of rows o)) = h ∙ ap (λ k. how_of k (last_of (children_of rows k))) (sym i) in
-    subst (λ h. LinksHold (rows ++ row ∷ attributes) (first_after h (length rows) first) (next_after h (length rows) next)) (sym e) (links_at rows o os row attributes first next (last_of (children_of rows o)) refl s j f n l)
+    subst (λ h. LinksHold (rows ++ row ∷ attributes) (first_after h (length rows) first) (next_after h (length rows) next)) (sym e)
+    (links_at rows o os row attributes first next (last_of (children_of rows o)) refl s j f n l)
 
 join_extents : (rows : List Row) (opened : List ℕ) (row : Row) (attributes : List Row) (parent : ℕ) (extent : List ℕ)
     → StackOf rows opened → CanJoin opened row attributes → IsInnermost opened parent
@@ -86,7 +88,9 @@ words_join c steps n how first next extent v w j f g =
     let R : ℕ → Type 0 = λ m. LinksHold (rows_of steps ++ row_of c (place_at c n) ∷ attributes) (first_after how m first) (next_after how m next) in
     record {
       lawful = lawful_push steps (node_at c n) w.lawful j.going j.may;
-      links = subst P (sym r) (subst R (sym j.next) (join_links (rows_of steps) (document_of steps).opened (row_of c (place_at c n)) attributes (place_at c n).parent how first next s j.may j.innermost j.link (omega (arith, j.filled, j.next)) (omega (arith, j.filled, j.next)) w.links));
+      links = subst P (sym r) (subst R (sym j.next)
+          (join_links (rows_of steps) (document_of steps).opened (row_of c (place_at c n)) attributes (place_at c n).parent how first next s j.may j.innermost j.link
+          (omega (arith, j.filled, j.next)) (omega (arith, j.filled, j.next)) w.links));
       extents = subst Q (sym r) (join_extents (rows_of steps) (document_of steps).opened (row_of c (place_at c n)) attributes (place_at c n).parent extent s j.may j.innermost w.extents);
       ended = w.ended ∙ sym (ap (λ (q : Document). q.ended) r);
     }

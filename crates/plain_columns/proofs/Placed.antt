@@ -1,5 +1,6 @@
 -- What a join does to the rows at their places.
-use Rattle.std.proofs.Common.{◌≡◌, ℕ, zero, suc, ◌+◌, ◌-◌, ◌<◌, List, [], ◌∷◌, ◌++◌, length, Some, None, drop, get_or, map, ap, sym, ◌∙◌, subst, arith, length-append, length-take, length-drop, get_or-take, get_or-drop, inl, inr}
+use Rattle.std.proofs.Common.{◌≡◌, ℕ, zero, suc, ◌+◌, ◌-◌, ◌<◌, List, [], ◌∷◌, ◌++◌, length, Some, None, drop, get_or, map, ap, sym, ◌∙◌, subst}
+use Rattle.std.proofs.Common.{arith, length-append, length-take, length-drop, get_or-take, get_or-drop, inl, inr}
 use Rattle.std.proofs.lemmas.Bool.{cases_lt, cases_eq}
 use Rattle.std.proofs.lemmas.List.{length-map, get_or-map}
 use Rattle.doc_model.specs.declared.row.Row.{Row}
@@ -38,7 +39,8 @@ record JoinedData (rows more : List Row) (parent : ℕ) : Type 0 where
   pub count_new : suc (attr_count_of (rows ++ more) (length rows)) ≡ length more
   pub count_attribute : (i : ℕ) → suc i < length more → attr_count_of (rows ++ more) (length rows + suc i) ≡ 0
 
-joined_data : (rows : List Row) (opened : List ℕ) (row : Row) (attributes : List Row) (parent : ℕ) → StackOf rows opened → CanJoin opened row attributes → IsInnermost opened parent → JoinedData rows (row ∷ attributes) parent
+joined_data : (rows : List Row) (opened : List ℕ) (row : Row) (attributes : List Row) (parent : ℕ) → StackOf rows opened → CanJoin opened row attributes → IsInnermost opened parent
+    → JoinedData rows (row ∷ attributes) parent
 joined_data rows [] row attributes parent s j i = absurd i
 joined_data rows (o ∷ os) row attributes parent s j i = record {
   prev_old = prev_old rows o os row attributes s j;
@@ -132,6 +134,15 @@ module _ (c : Columns) (steps : List Step) (n : ℕ) (how : How) (lawful : Lawfu
   pub placed_join : Placed c (steps ++ node_at c n ∷ []) (n + suc (place_at c n).attr_count)
   placed_join =
       let r : document_of (steps ++ node_at c n ∷ []) ≡ after (document_of steps) (node_at c n) = document_of-push steps (node_at c n) in
-      let P : Document → Type 0 = λ q. (n + suc (place_at c n).attr_count ≡ length q.rows) × ((k : ℕ) → k < length q.rows → row_at q.rows k ≡ row_of c (place_at c k)) × ((k : ℕ) → 0 < k → k < length q.rows → parent_of q.rows k ≡ Some (place_at c k).parent) × ((k : ℕ) → k < length q.rows → prev_shown [] q.rows k ≡ (place_at c k).prev) × ((k : ℕ) → k < length q.rows → attr_count_of q.rows k ≡ (place_at c k).attr_count) in
-      let t = subst P (sym r) (sym all_len, λ k l. all_rows k (omega (arith, all_len)), λ k p l. all_parents k p (omega (arith, all_len)), λ k l. (all_data k (omega (arith, all_len))).0, λ k l. (all_data k (omega (arith, all_len))).1) in
+      let P : Document → Type 0 = λ q. (n + suc (place_at c n).attr_count ≡ length q.rows) × ((k : ℕ) → k < length q.rows → row_at q.rows k ≡ row_of c (place_at c k))
+      × ((k : ℕ) → 0 < k → k < length q.rows → parent_of q.rows k ≡ Some (place_at c k).parent) × ((k : ℕ) → k < length q.rows → prev_shown [] q.rows k ≡ (place_at c k).prev)
+      × ((k : ℕ) → k < length q.rows → attr_count_of q.rows k ≡ (place_at c k).attr_count) in
+      let t = subst P (sym r) (
+        sym all_len,
+        λ k l. all_rows k (omega (arith, all_len)),
+        λ k p l. all_parents k p (omega (arith, all_len)),
+        λ k l.
+            (all_data k (omega (arith, all_len))).0,
+        λ k l. (all_data k (omega (arith, all_len))).1,
+      ) in
       record { joined = t.0; within = omega (arith, fits.filled); rows = t.1; parents = t.2; prevs = t.3; counts = t.4 }

@@ -129,7 +129,11 @@ attributes_numbered : (uris : List (List ℕ)) (bound : List Binding) (deep : �
 attributes_numbered uris bound deep [] empty all = tt
 attributes_numbered uris bound deep (it ∷ lines) empty all = elim (cases_Bool (is_declaration it.name)) [
   | inl e ↦ rw e (attributes_numbered uris bound deep lines empty all)
-  | inr e ↦ rw e (at_number uris _ (attribute_among uris bound (prefix_of it.name) empty all).0 (attribute_among uris bound (prefix_of it.name) empty all).1, attributes_numbered uris bound deep lines empty all)
+  | inr e ↦ rw e (
+    at_number uris _ (attribute_among uris bound (prefix_of it.name) empty all).0
+        (attribute_among uris bound (prefix_of it.name) empty all).1,
+    attributes_numbered uris bound deep lines empty all,
+  )
 ]
 
 -- the node of a start that is completed has the numbers of its URIs

@@ -1,5 +1,6 @@
 -- Expanded names that come again.
-use Rattle.std.proofs.Common.{◌≡◌, ◌<◌, ◌+◌, ◌==◌, ◌&&◌, ◌||◌, not, Bool, true, false, ℕ, List, [], ◌∷◌, ◌++◌, Some, refl, sym, ap, ap₂, ◌∙◌, subst, arith, ⊎_elim, take, drop, length, get_or, append_assoc}
+use Rattle.std.proofs.Common.{◌≡◌, ◌<◌, ◌+◌, ◌==◌, ◌&&◌, ◌||◌, not, Bool, true, false, ℕ, List, [], ◌∷◌, ◌++◌, Some, refl, sym, ap, ap₂, ◌∙◌, subst}
+use Rattle.std.proofs.Common.{arith, ⊎_elim, take, drop, length, get_or, append_assoc}
 use Rattle.std.specs.Prelude.{slice_get}
 use Rattle.std.specs.List.{list_any}
 use Rattle.std.specs.Str.{bytes_eq}
@@ -67,7 +68,8 @@ alike_keys key x uri local e =
     let p = and_parts _ _ (sym (tells key.uri x.uri key.local.items x.local.items) ∙ e) in
     ap₂ (λ (u : ℕ) (l : List ℕ). uri == u && bytes_eq local l) (sym (eqb-true _ _ p.0)) (sym ((bytes_decides key.local.items x.local.items).0 p.1))
 
-pub put : (keys : List ExpandedName) (key : ExpandedName) (uri : ℕ) (local : List ℕ) → list_any (is_name uri local) (insert_key key_cmp keys key) ≡ (is_name uri local key || list_any (is_name uri local) keys)
+pub put : (keys : List ExpandedName) (key : ExpandedName) (uri : ℕ) (local : List ℕ)
+    → list_any (is_name uri local) (insert_key key_cmp keys key) ≡ (is_name uri local key || list_any (is_name uri local) keys)
 put keys key uri local = any_inserted key_cmp (is_name uri local) key (λ x e. alike_keys key x uri local e) keys
 
 flipped : (a b : List ℕ) → bytes_eq a b ≡ bytes_eq b a
@@ -154,11 +156,13 @@ again_at rows i x within is e =
     sym (ap repeats (split_item rows i x within is) ∙ comes_again (take i rows) x (drop (i + 1) rows) e)
 
 -- the row at a place has the name of none before it
-pub apart_at : (rows : List Row) (i : ℕ) (x : Row) → i < length rows → x ≡ get_or rows i x → repeats (take i rows) ≡ false → list_any (same_expanded x) (take i rows) ≡ false → repeats (take (i + 1) rows) ≡ false
+pub apart_at : (rows : List Row) (i : ℕ) (x : Row) → i < length rows → x ≡ get_or rows i x → repeats (take i rows) ≡ false → list_any (same_expanded x) (take i rows) ≡ false
+    → repeats (take (i + 1) rows) ≡ false
 apart_at rows i x within is none new =
     ap repeats (take_next rows i x within is) ∙ one_more (take i rows) x ∙ ap₂ (λ (a b : Bool). a || b) new none
 
-pub has_next : (uris : List (List ℕ)) (rows : List Row) (i : ℕ) (x : Row) (names : ExpandedNames) → i < length rows → x ≡ get_or rows i x → HasNames uris names (take i rows ++ x ∷ []) → HasNames uris names (take (i + 1) rows)
+pub has_next : (uris : List (List ℕ)) (rows : List Row) (i : ℕ) (x : Row) (names : ExpandedNames) → i < length rows → x ≡ get_or rows i x
+    → HasNames uris names (take i rows ++ x ∷ []) → HasNames uris names (take (i + 1) rows)
 has_next uris rows i x names within is has = subst (λ (front : List Row). HasNames uris names front) (sym (take_next rows i x within is)) has
 
 pub denied : (a b : Bool) → a ≡ not b → b ≡ not a

@@ -87,7 +87,8 @@ pub node_completed : (limits : Limits) (before : List Line) (first start : Optio
     → IsAt limits before first start uris bound deep → node ≡ start_node uris bound deep start → node ≡ completed before first
 node_completed limits before first start uris bound deep node at given = rw (at.known, at.binds, at.open_elements, ← at.is) given
 
-pub refused_first : (limits : Limits) (before : List Line) (first start : Option PendingStart) (uris : List (List ℕ)) (bound : List Binding) (deep : ℕ) (own : Option FlawKind) (events : List Event) (error : EventError)
+pub refused_first : (limits : Limits) (before : List Line) (first start : Option PendingStart) (uris : List (List ℕ)) (bound : List Binding) (deep : ℕ) (own : Option FlawKind)
+    (events : List Event) (error : EventError)
     → IsAt limits before first start uris bound deep
     → IfSome (flaw_in error) (λ flaw. at_line (start_line start) (start_flaw bound deep start) None ≡ Some flaw)
     → IfSome (completed_in error) (λ node. node ≡ [])
@@ -95,7 +96,8 @@ pub refused_first : (limits : Limits) (before : List Line) (first start : Option
 refused_first limits before first start uris bound deep own events error at r n =
     rw (← at.is) (start_refused limits before start bound deep own events error at.binds at.open_elements r n)
 
-pub refused_own : (limits : Limits) (before : List Line) (first start : Option PendingStart) (uris : List (List ℕ)) (bound : List Binding) (deep : ℕ) (own judged : Option FlawKind) (kind : FlawKind) (events node : List Event) (l : ℕ)
+pub refused_own : (limits : Limits) (before : List Line) (first start : Option PendingStart) (uris : List (List ℕ)) (bound : List Binding) (deep : ℕ) (own judged : Option FlawKind)
+    (kind : FlawKind) (events node : List Event) (l : ℕ)
     → IsAt limits before first start uris bound deep → start_flaw bound deep start ≡ None → judged ≡ own → judged ≡ Some kind → l ≡ length before + 1 → node ≡ start_node uris bound deep start
     → Gives (in_order limits true before first own) events (sound_node limits before first) (Err (Refused (record { line = l; kind = kind }) node))
 refused_own limits before first start uris bound deep own judged kind events node l at f j is number given =
@@ -103,7 +105,8 @@ refused_own limits before first start uris bound deep own judged kind events nod
     let good' : completed_flaw limits true before first ≡ None = rw (← at.is) good in
     own_refused limits before first own kind events node l good' (sym j ∙ is) number (node_completed limits before first start uris bound deep node at given)
 
-pub given_all : (limits : Limits) (before : List Line) (first start : Option PendingStart) (uris : List (List ℕ)) (bound : List Binding) (deep : ℕ) (own judged : Option FlawKind) (events given node : List Event)
+pub given_all : (limits : Limits) (before : List Line) (first start : Option PendingStart) (uris : List (List ℕ)) (bound : List Binding) (deep : ℕ) (own judged : Option FlawKind)
+    (events given node : List Event)
     → IsAt limits before first start uris bound deep → start_flaw bound deep start ≡ None → judged ≡ own → judged ≡ None → given ≡ events
     → Gives (in_order limits true before first own) events node (Ok given)
 given_all limits before first start uris bound deep own judged events given node at f j is same =

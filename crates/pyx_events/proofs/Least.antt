@@ -1,5 +1,6 @@
 -- The first flaw, as the flaw at the least line at which one is judged.
-use Rattle.std.proofs.Common.{◌≡◌, ◌+◌, ◌<◌, ◌≤◌, ℕ, zero, suc, List, [], ◌∷◌, ◌++◌, Bool, Option, Some, None, Result, Ok, Err, take, length, slice_get, refl, sym, ◌∙◌, ap, subst, arith, zero-add, add-zero, append_assoc}
+use Rattle.std.proofs.Common.{◌≡◌, ◌+◌, ◌<◌, ◌≤◌, ℕ, zero, suc, List, [], ◌∷◌, ◌++◌, Bool, Option, Some, None, Result, Ok, Err, take, length}
+use Rattle.std.proofs.Common.{slice_get, refl, sym, ◌∙◌, ap, subst, arith, zero-add, add-zero, append_assoc}
 use Rattle.std.proofs.lemmas.List.{reverse-append, append-nil}
 use Rattle.std.specs.List.{flat_map}
 use Rattle.doc_model.specs.declared.limits.Limits.{Limits}
@@ -23,7 +24,8 @@ abbrev FirstIn : Limits → Bool → List Line → List (Result Line Refusal) �
 FirstIn limits free before lines None = (k : ℕ) → k ≤ length lines → judged_in limits free before lines k ≡ None
 FirstIn limits free before lines (Some flaw) = LeastIn limits free before lines flaw
 
-more_before : (before : List Line) (line : Line) (lines : List (Result Line Refusal)) (k : ℕ) → events_before (take (suc k) (Ok line ∷ lines)) ++ before ≡ events_before (take k lines) ++ (line ∷ before)
+more_before : (before : List Line) (line : Line) (lines : List (Result Line Refusal)) (k : ℕ)
+    → events_before (take (suc k) (Ok line ∷ lines)) ++ before ≡ events_before (take k lines) ++ (line ∷ before)
 more_before before line lines k =
     let events = flat_map event_of (take k lines) in
     ap (λ (all : List Line). all ++ before) (reverse-append (line ∷ []) events) ∙ append_assoc (events_before (take k lines)) (line ∷ []) before

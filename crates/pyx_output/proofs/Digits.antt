@@ -15,7 +15,8 @@ small (suc n) below =
     let more : 48 + n + 1 ≡ 48 + suc n = omega arith in
     rw (before, other, more) refl
 
-large_by : (n : ℕ) (last : Bool) → (48 + n % 10 == 57) ≡ last → (if last then 48 ∷ next_digits (digits_back (n / 10)) else (48 + n % 10 + 1) ∷ digits_back (n / 10)) ≡ (48 + suc n % 10) ∷ digits_back (suc n / 10)
+large_by : (n : ℕ) (last : Bool) → (48 + n % 10 == 57) ≡ last
+    → (if last then 48 ∷ next_digits (digits_back (n / 10)) else (48 + n % 10 + 1) ∷ digits_back (n / 10)) ≡ (48 + suc n % 10) ∷ digits_back (suc n / 10)
 large_by n true is =
     let nine = eqb-true (48 + n % 10) 57 is in
     let none : 48 + suc n % 10 ≡ 48 = omega arith in
@@ -40,4 +41,5 @@ more n digits above is =
     rw (is, front) (sym (reverse-append ((48 + n % 10) ∷ []) (digits_back (n / 10))))
 
 pub decimal_is : (n : ℕ) → n < 2 ^ 64 → decimal n ≡ reverse (digits_back n)
-decimal_is n small_enough = decimal_by_steps (λ (k : ℕ) (digits : List ℕ). digits ≡ reverse (digits_back k)) (λ k below. ap (λ (digits : List ℕ). reverse digits) (sym (small k below))) more n small_enough
+decimal_is n small_enough = decimal_by_steps (λ (k : ℕ) (digits : List ℕ). digits ≡ reverse (digits_back k))
+    (λ k below. ap (λ (digits : List ℕ). reverse digits) (sym (small k below))) more n small_enough

@@ -39,7 +39,8 @@ reached_by tries k number bound false is past none at next = elim (cases_lt k nu
 
 reached : (tries k number : ℕ) (bound : List Binding) → IsPast bound number → is_bound bound (numbered number) ≡ false → k ≤ number → number ≤ k + tries → free_from tries k bound ≡ number
 reached zero k number bound past none at most = omega arith
-reached (suc tries) k number bound past none at most = reached_by tries k number bound (is_bound bound (numbered k)) refl past none at (λ more. reached tries (k + 1) number bound past none more (omega arith))
+reached (suc tries) k number bound past none at most =
+    reached_by tries k number bound (is_bound bound (numbered k)) refl past none at (λ more. reached tries (k + 1) number bound past none more (omega arith))
 
 -- the first that is free is where all before it are bound
 pub free_is : (bound : List Binding) (number : ℕ) → IsPast bound number → is_bound bound (numbered number) ≡ false → number ≡ first_free bound

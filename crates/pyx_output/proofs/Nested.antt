@@ -112,7 +112,8 @@ pub record IsClosed (inner : Open) (front opened : List Open) (scope : List Bind
   pub has : HasNumbers scope inner.numbers
   pub elements : elements_of (reverse opened) (scope ∷ scopes) ≡ record { name = inner.name; bound = all_bindings (scope ∷ scopes) } ∷ elements_of (reverse front) scopes
 
-pub closed_nested : (inner : Open) (front opened : List Open) (scope : List Binding) (scopes : List (List Binding)) → opened ≡ front ++ inner ∷ [] → AreNested (reverse opened) (scope ∷ scopes) → IsClosed inner front opened scope scopes
+pub closed_nested : (inner : Open) (front opened : List Open) (scope : List Binding) (scopes : List (List Binding)) → opened ≡ front ++ inner ∷ []
+    → AreNested (reverse opened) (scope ∷ scopes) → IsClosed inner front opened scope scopes
 closed_nested inner front opened scope scopes is nested =
     let both = nested_last inner front opened (scope ∷ scopes) is nested in
     record {
@@ -122,7 +123,8 @@ closed_nested inner front opened scope scopes is nested =
     }
 
 -- what is seen after one more declaration
-pub declared_seen : (binding : Binding) (number : Option ℕ) (opened opened' : List Open) (scopes scopes' : List (List Binding)) → reverse opened' ≡ noted number (reverse opened) → scopes' ≡ bound_in scopes binding
+pub declared_seen : (binding : Binding) (number : Option ℕ) (opened opened' : List Open) (scopes scopes' : List (List Binding)) → reverse opened' ≡ noted number (reverse opened)
+    → scopes' ≡ bound_in scopes binding
     → 0 < length (elements_of (reverse opened) scopes) → AreNested (reverse opened) scopes → elements_of (reverse opened') scopes' ≡ with_declared binding (elements_of (reverse opened) scopes)
 declared_seen binding number opened opened' scopes scopes' e1 e2 some nested =
     rw (e1, e2) (noted_elements number (reverse opened) (bound_in scopes binding) ∙ declared_elements binding (reverse opened) scopes some nested)

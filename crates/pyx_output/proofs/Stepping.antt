@@ -7,7 +7,9 @@ use Rattle.result_events.specs.declared.event.Name.{Name}
 use Rattle.result_events.specs.declared.event.Attribute.{Attribute}
 use Rattle.xml_names.specs.declared.scopes.Binding.{Binding}
 use Rattle.pyx_output.specs.Numbered.{numbered, first_free}
-use Rattle.pyx_output.specs.Declaring.{Choice, Head, as_it_stands, declaring, with_choice, is_xml, binds, asked, has_prefix, declares, attribute_choice, head_after, first_head, element_choice, element_name, element_lines, attribute_lines, declaration_line, is_bound}
+use Rattle.pyx_output.specs.Declaring.{Choice, Head, as_it_stands, declaring, with_choice, is_xml, binds, asked, has_prefix, declares}
+use Rattle.pyx_output.specs.Declaring.{attribute_choice, head_after, first_head, element_choice, element_name, element_lines, attribute_lines}
+use Rattle.pyx_output.specs.Declaring.{declaration_line, is_bound}
 use Rattle.pyx_lines.specs.declared.line.Line.{Line}
 use Rattle.pyx_lines.specs.declared.line.Line.TheVariants as line
 use Rattle.pyx_lines.specs.Writing.{written}
@@ -17,7 +19,8 @@ use Rattle.pyx_output.specs.Heading.{HasElement, Writing, plain, in_head, Stands
 use Rattle.pyx_output.specs.declared.heading.Heading.{Heading}
 
 -- where no attribute comes next, what is held comes first
-pub settled : (state : Writing) (nest : List Element) (heading : Option Heading) (events : List ResultEvent) → Stands state nest heading → leading events ≡ [] → rest state events ≡ held_in heading ++ bytes_of_lines (lines_from nest events)
+pub settled : (state : Writing) (nest : List Element) (heading : Option Heading) (events : List ResultEvent) → Stands state nest heading → leading events ≡ []
+    → rest state events ≡ held_in heading ++ bytes_of_lines (lines_from nest events)
 settled (plain elements) nest None events stands none = ap (λ (elements : List Element). bytes_of_lines (lines_from elements events)) (sym stands)
 settled (plain elements) nest (Some heading) events stands none = absurd stands
 settled (in_head name outer head held) nest None events stands none = absurd stands
@@ -65,9 +68,12 @@ own_back : (outer : List Binding) (head : Head) (attributes : List Attribute) �
 own_back outer head [] = sym (append-nil (reverse head.own))
 own_back outer head (attribute ∷ attributes) =
     let choice = attribute_choice outer head attribute.name in
-    let one : reverse choice.declared ≡ choice.declared = attribute_by outer head attribute.name (is_xml attribute.name) (length attribute.name.uri == 0) (length (asked attribute.name) == 0) (binds (head.own ++ outer) (asked attribute.name) attribute.name.uri) (has_prefix (asked attribute.name) head.used || declares (asked attribute.name) head.own) in
+    let one : reverse choice.declared ≡ choice.declared =
+    attribute_by outer head attribute.name (is_xml attribute.name) (length attribute.name.uri == 0) (length (asked attribute.name) == 0)
+    (binds (head.own ++ outer) (asked attribute.name) attribute.name.uri) (has_prefix (asked attribute.name) head.used || declares (asked attribute.name) head.own) in
     own_back outer (with_choice choice head) attributes
-    ∙ (ap (λ (front : List Binding). front ++ declared_after outer (with_choice choice head) attributes) (reverse-append choice.declared head.own ∙ ap (λ (made : List Binding). reverse head.own ++ made) one)
+    ∙ (ap (λ (front : List Binding). front ++ declared_after outer (with_choice choice head) attributes)
+    (reverse-append choice.declared head.own ∙ ap (λ (made : List Binding). reverse head.own ++ made) one)
     ∙ append_assoc (reverse head.own) choice.declared (declared_after outer (with_choice choice head) attributes))
 
 element_by : (outer : List Binding) (name : Name) (xml bare default kept : Bool)
@@ -79,7 +85,8 @@ element_by outer name false false default true = refl
 element_by outer name false false default false = refl
 
 -- an element's declarations in order, its own first
-first_back : (outer : List Binding) (name : Name) (attributes : List Attribute) → reverse (head_after outer (first_head outer name) attributes).own ≡ (element_choice outer name).declared ++ declared_after outer (first_head outer name) attributes
+first_back : (outer : List Binding) (name : Name) (attributes : List Attribute)
+    → reverse (head_after outer (first_head outer name) attributes).own ≡ (element_choice outer name).declared ++ declared_after outer (first_head outer name) attributes
 first_back outer name attributes =
     let choice = element_choice outer name in
     let one : reverse choice.declared ≡ choice.declared = element_by outer name (is_xml name) (length name.uri == 0) (is_bound outer []) (binds outer (asked name) name.uri) in
@@ -88,7 +95,8 @@ first_back outer name attributes =
 
 -- the declaration lines of an element, its own first
 declaration_lines : (outer : List Binding) (name : Name) (attributes : List Attribute)
-    → map declaration_line (reverse (head_after outer (first_head outer name) attributes).own) ≡ map declaration_line (element_choice outer name).declared ++ map declaration_line (declared_after outer (first_head outer name) attributes)
+    → map declaration_line (reverse (head_after outer (first_head outer name) attributes).own)
+    ≡ map declaration_line (element_choice outer name).declared ++ map declaration_line (declared_after outer (first_head outer name) attributes)
 declaration_lines outer name attributes =
     ap (λ (own : List Binding). map declaration_line own) (first_back outer name attributes)
     ∙ map-append declaration_line (element_choice outer name).declared (declared_after outer (first_head outer name) attributes)
@@ -104,7 +112,8 @@ head_bytes outer name given later =
     let lines = attribute_lines outer (first_head outer name) given in
     ap (λ (bytes : List ℕ). written (line.Start (element_name outer name)) ++ bytes)
     (flat_map-append written (made ++ lines) later
-    ∙ (ap (λ (bytes : List ℕ). bytes ++ bytes_of_lines later) (flat_map-append written made lines ∙ ap (λ (bytes : List ℕ). bytes ++ bytes_of_lines lines) (ap bytes_of_lines (declaration_lines outer name given) ∙ flat_map-append written own rest))
+    ∙ (ap (λ (bytes : List ℕ). bytes ++ bytes_of_lines later)
+    (flat_map-append written made lines ∙ ap (λ (bytes : List ℕ). bytes ++ bytes_of_lines lines) (ap bytes_of_lines (declaration_lines outer name given) ∙ flat_map-append written own rest))
     ∙ simp append_assoc))
 
 regroup : (out held start own rest : List ℕ) → ((out ++ held) ++ (start ++ own)) ++ rest ≡ out ++ (held ++ (start ++ (own ++ rest)))
@@ -122,8 +131,11 @@ started state nest nest' heading made name out after stands begun is =
       adds = λ later.
           let inner = lines_from (inner_element (element_name (in_force nest) name) nest (head_after (in_force nest) (first_head (in_force nest) name) (leading later)) ∷ nest) later in
           ap (λ (bytes : List ℕ). bytes ++ rest next later) is
-          ∙ (regroup out (held_in heading) (written (line.Start (element_name (in_force nest) name))) (bytes_of_lines (map declaration_line (element_choice (in_force nest) name).declared)) (rest next later)
-          ∙ ap (λ (bytes : List ℕ). out ++ bytes) (ap (λ (bytes : List ℕ). held_in heading ++ bytes) (sym (head_bytes (in_force nest) name (leading later) inner)) ∙ sym (settled state nest heading (made_event.Start name ∷ later) stands refl)));
+          ∙ (regroup out (held_in heading) (written (line.Start (element_name (in_force nest) name)))
+          (bytes_of_lines (map declaration_line (element_choice (in_force nest) name).declared)) (rest next later)
+          ∙ ap (λ (bytes : List ℕ). out ++ bytes)
+          (ap (λ (bytes : List ℕ). held_in heading ++ bytes) (sym (head_bytes (in_force nest) name (leading later) inner))
+          ∙ sym (settled state nest heading (made_event.Start name ∷ later) stands refl)));
     }
 
 -- an attribute's own declarations, and those of the attributes behind it
@@ -155,7 +167,8 @@ attributed (in_head own outer head held) nest nest' heading made name value out 
           let inner = bytes_of_lines (lines_from (inner_element own outer (head_after (in_force outer) more (leading later)) ∷ outer) later) in
           ap (λ (bytes : List ℕ). bytes ++ rest next later) (is own outer head held stands)
           ∙ (regroup_attribute out first (bytes_of_lines (map declaration_line behind)) held line lines inner
-          ∙ ap (λ (bytes : List ℕ). out ++ (bytes ++ (held ++ ((line ++ lines) ++ inner)))) (sym (ap bytes_of_lines (split_lines choice.declared behind) ∙ flat_map-append written (map declaration_line choice.declared) (map declaration_line behind))));
+          ∙ ap (λ (bytes : List ℕ). out ++ (bytes ++ (held ++ ((line ++ lines) ++ inner))))
+          (sym (ap bytes_of_lines (split_lines choice.declared behind) ∙ flat_map-append written (map declaration_line choice.declared) (map declaration_line behind))));
     }
 
 -- a head that may grow has its element

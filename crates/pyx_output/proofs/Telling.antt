@@ -1,5 +1,6 @@
 -- What is kept of the free numbers tells them, after each change.
-use Rattle.std.proofs.Common.{◌≡◌, ℕ, ◌<◌, ◌≤◌, ◌^◌, ◌==◌, ◌||◌, List, [], ◌∷◌, ◌++◌, Bool, true, false, not, cond, IsTrue, Option, Some, None, is_some, Result, Ok, Err, OnOk, OnErr, refl, sym, ap, ◌∙◌, subst, arith}
+use Rattle.std.proofs.Common.{◌≡◌, ℕ, ◌<◌, ◌≤◌, ◌^◌, ◌==◌, ◌||◌, List, [], ◌∷◌, ◌++◌, Bool, true, false, not, cond, IsTrue, Option, Some, None}
+use Rattle.std.proofs.Common.{is_some, Result, Ok, Err, OnOk, OnErr, refl, sym, ap, ◌∙◌, subst, arith}
 use Rattle.std.specs.BTreeSet.{BTreeSet, contains, IsEmpty, IsLowerBound, Updates}
 use Rattle.std.specs.BTreeMap.{is_at}
 use Rattle.std.specs.List.{list_any}
@@ -45,7 +46,8 @@ pub told_nothing : (numbers : FreeNumbers) (bound : List Binding) → numbers.ma
 told_nothing numbers bound zero none = told_past numbers bound (omega (arith, zero)) none (λ k below. absurd (omega (arith, zero)))
 
 -- the least number of the set is the first free one
-pub told_first : (numbers : FreeNumbers) (bound : List Binding) (first : ℕ) → Tells numbers [] bound → IsTrue (contains nat_cmp numbers.free first) → IsLowerBound nat_cmp numbers.free first → first ≡ first_free bound
+pub told_first : (numbers : FreeNumbers) (bound : List Binding) (first : ℕ) → Tells numbers [] bound → IsTrue (contains nat_cmp numbers.free first)
+    → IsLowerBound nat_cmp numbers.free first → first ≡ first_free bound
 told_first numbers bound first tells there least =
     let within = tells.below first there in
     free_is bound first
@@ -95,7 +97,8 @@ looked old new number is bound rest same updates within free tells = record {
 pub told_rest : (numbers : FreeNumbers) (bound : List Binding) (rest : List ℕ) → Tells numbers [] bound → Tells numbers rest bound
 told_rest numbers bound rest tells = record { small = tells.small; below = tells.below; told = λ k below none. tells.told k below refl }
 
-pub looked_added : {A E : Type 0} (result : Result A E) (old new : FreeNumbers) (number : ℕ) (bound : List Binding) (rest : List ℕ) → OnOk result (Updates nat_cmp old.free new.free number true) → OnOk result (new.mark ≡ old.mark)
+pub looked_added : {A E : Type 0} (result : Result A E) (old new : FreeNumbers) (number : ℕ) (bound : List Binding) (rest : List ℕ)
+    → OnOk result (Updates nat_cmp old.free new.free number true) → OnOk result (new.mark ≡ old.mark)
     → OnErr result (Tells new [] bound) → number < old.mark → is_bound bound (numbered number) ≡ false → Tells old (number ∷ rest) bound → Tells new rest bound
 looked_added (Ok done) old new number bound rest updates same none within free tells = looked old new number true bound rest same updates within (ap not (sym free)) tells
 looked_added (Err refused) old new number bound rest updates same none within free tells = told_rest new bound rest none
@@ -123,7 +126,8 @@ told_declared numbers binding bound number reads tells = record {
     itself : (k : ℕ) → has_number k (k ∷ []) ≡ true
     itself k = grind (arith, nat_tests)
 
-    by : (k : ℕ) (is : Bool) → bytes_eq binding.prefix (numbered k) ≡ is → k < numbers.mark → has_number k (doubtful number) ≡ false → contains nat_cmp numbers.free k ≡ not (is_bound (binding ∷ bound) (numbered k))
+    by : (k : ℕ) (is : Bool) → bytes_eq binding.prefix (numbered k) ≡ is → k < numbers.mark → has_number k (doubtful number) ≡ false
+        → contains nat_cmp numbers.free k ≡ not (is_bound (binding ∷ bound) (numbered k))
     by k true is below none =
         let small = tells.small in
         let same = reads k (omega arith) ((bytes_eq-Decides binding.prefix (numbered k)).0 is) in

@@ -12,7 +12,8 @@ use Rattle.xml_names.specs.Kept.{Latest, found}
 use Rattle.pyx_output.specs.Declaring.{has_prefix}
 use Rattle.pyx_output.specs.Used.{IsUsed}
 
-other_entries : {K X : Type 0} (eq : K → K → Bool) (test : K → Bool) (old new : List (K × X)) → KeepsOthers eq test old new → (other : K → Bool) → IsKeyTest eq other → AreApart test other → lookup other new ≡ lookup other old
+other_entries : {K X : Type 0} (eq : K → K → Bool) (test : K → Bool) (old new : List (K × X)) → KeepsOthers eq test old new → (other : K → Bool) → IsKeyTest eq other
+    → AreApart test other → lookup other new ≡ lookup other old
 unfolding KeepsOthers
 other_entries eq test old new h = h
 
@@ -28,12 +29,14 @@ pub found_after : (bs : List ℕ) (old new : Latest) (w : Option ℕ) → Update
 found_after bs old new w h cs =
     ⊎_elim
     (λ y. subst (λ l. found l new ≡ w) ((bytes_decides bs cs).0 y) h.1 ∙ sym (cond-true (bytes_eq bs cs) w (found cs old) y))
-    (λ n. other_entries _ _ _ _ h.3 _ (λ x y. (eq_by_cmp_equiv nat_list_cmp_total).congr cs x.items y.items) (λ key. apart_in_order bs cs key.items n) ∙ sym (cond-false (bytes_eq bs cs) w (found cs old) n))
+    (λ n. other_entries _ _ _ _ h.3 _ (λ x y. (eq_by_cmp_equiv nat_list_cmp_total).congr cs x.items y.items) (λ key. apart_in_order bs cs key.items n)
+    ∙ sym (cond-false (bytes_eq bs cs) w (found cs old) n))
     (cases_Bool (bytes_eq bs cs))
 
 some_by : (is more : Bool) (before : Option ℕ) → is_some before ≡ more → is_some (cond is (Some 0) before) ≡ is || more
 some_by true more before same = refl
 some_by false more before same = same
 
-pub used_more : (key : List ℕ) (old new : Latest) (prefixes : List (List ℕ)) → IsUsed old prefixes → ((prefix : List ℕ) → found prefix new ≡ cond (bytes_eq key prefix) (Some 0) (found prefix old)) → IsUsed new (key ∷ prefixes)
+pub used_more : (key : List ℕ) (old new : Latest) (prefixes : List (List ℕ)) → IsUsed old prefixes
+    → ((prefix : List ℕ) → found prefix new ≡ cond (bytes_eq key prefix) (Some 0) (found prefix old)) → IsUsed new (key ∷ prefixes)
 used_more key old new prefixes is after = λ prefix. ap (λ (place : Option ℕ). is_some place) (after prefix) ∙ some_by (bytes_eq key prefix) (has_prefix prefix prefixes) (found prefix old) (is prefix)

@@ -1,5 +1,6 @@
 -- The first line of bytes, where it ends in what is held.
-use Rattle.std.proofs.Common.{◌≡◌, ℕ, suc, ◌+◌, ◌<◌, ◌≤◌, ◌==◌, List, [], ◌∷◌, ◌++◌, ◌∙◌, Option, Some, None, Bool, true, false, nat_le, nat_lt, Err, length, get_or, take, drop, refl, sym, subst, arith, ap, append_assoc, append-nil, length-append}
+use Rattle.std.proofs.Common.{◌≡◌, ℕ, suc, ◌+◌, ◌<◌, ◌≤◌, ◌==◌, List, [], ◌∷◌, ◌++◌, ◌∙◌, Option, Some, None, Bool, true, false, nat_le, nat_lt, Err}
+use Rattle.std.proofs.Common.{length, get_or, take, drop, refl, sym, subst, arith, ap, append_assoc, append-nil, length-append}
 use Rattle.std.specs.List.{slice_split}
 use Rattle.std.specs.Io.KnownBytes.{Consumes, IsAtEnd}
 use Rattle.std.proofs.lemmas.Grind.{common_steps}
@@ -124,7 +125,8 @@ refuses_far line held held' None left' at m few far within feed plain = tt
 refuses_far line held held' (Some xs) None at m few far within feed plain = absurd m.taken
 refuses_far line held held' (Some xs) (Some ys) at m few far within feed plain =
     let long : 1048576 < length (take at held') = grind (arith, common_steps) in
-    refuses_first line held held' xs ys (take at held') (cut_lines (drop (at + 1) held' ++ ys)) LongLine (moved held xs held' ys m) (feed_cut held' ys at within feed plain) (judged_long line (take at held') few long)
+    refuses_first line held held' xs ys (take at held') (cut_lines (drop (at + 1) held' ++ ys)) LongLine (moved held xs held' ys m) (feed_cut held' ys at within feed plain)
+    (judged_long line (take at held') few long)
 
 -- too much is held without a line feed
 pub refuses_long : (line : ℕ) (held held' : List ℕ) (left left' : Option (List ℕ)) → Moves held left held' left' → line < 4294967295 → 1048576 < length held' →

@@ -12,7 +12,8 @@ consumes_more (Some xs) None left' bytes more first second = absurd first
 consumes_more (Some xs) (Some ys) None bytes more first second = absurd second
 consumes_more (Some xs) (Some ys) (Some zs) bytes more first second = rw (first, second, append_assoc bytes more zs) refl
 
-pub moves_more : (held mid held' : List ℕ) (left between left' : Option (List ℕ)) (more : List ℕ) → Moves held left mid between → held' ≡ mid ++ more → Consumes between left' more → Moves held left held' left'
+pub moves_more : (held mid held' : List ℕ) (left between left' : Option (List ℕ)) (more : List ℕ) → Moves held left mid between → held' ≡ mid ++ more → Consumes between left' more
+    → Moves held left held' left'
 moves_more held mid held' left between left' more m added taken = record {
   bytes = m.bytes ++ more;
   added = rw (added, m.added, append_assoc held m.bytes more) refl;

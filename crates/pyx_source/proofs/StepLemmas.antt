@@ -1,5 +1,6 @@
 -- One line further: what a found line gives, and what refuses it.
-use Rattle.std.proofs.Common.{◌≡◌, ℕ, ◌+◌, List, ◌∷◌, ◌++◌, Option, Some, None, Result, Ok, Err, IfOk, IfErr, IfSome, Bool, true, false, nat_le, nat_lt, if◌then◌else◌, length, take, drop, refl, sym, subst, ap, ◌∙◌}
+use Rattle.std.proofs.Common.{◌≡◌, ℕ, ◌+◌, List, ◌∷◌, ◌++◌, Option, Some, None, Result, Ok, Err, IfOk, IfErr, IfSome, Bool, true, false, nat_le}
+use Rattle.std.proofs.Common.{nat_lt, if◌then◌else◌, length, take, drop, refl, sym, subst, ap, ◌∙◌}
 use Rattle.std.specs.Str.Lines.{strip_carriage_return}
 use Rattle.pyx_lines.specs.declared.line.Line.{Line}
 use Rattle.pyx_lines.specs.declared.line_error.LineError.{LineError}

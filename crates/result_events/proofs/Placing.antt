@@ -1,5 +1,6 @@
 -- Attributes that are put in place have expanded names that differ.
-use Rattle.std.proofs.Common.{◌≡◌, ℕ, suc, ◌+◌, ◌<◌, ◌≤◌, ◌&&◌, ◌||◌, List, [], ◌∷◌, ◌++◌, Bool, true, false, not, if◌then◌else◌, length, slice_set, nat_lt, position, Some, None, refl, sym, ap, ◌∙◌, subst, arith}
+use Rattle.std.proofs.Common.{◌≡◌, ℕ, suc, ◌+◌, ◌<◌, ◌≤◌, ◌&&◌, ◌||◌, List, [], ◌∷◌, ◌++◌, Bool, true, false, not, if◌then◌else◌, length, slice_set}
+use Rattle.std.proofs.Common.{nat_lt, position, Some, None, refl, sym, ap, ◌∙◌, subst, arith}
 use Rattle.std.specs.List.{position_or_len}
 use Rattle.std.specs.Str.{bytes_eq}
 use Rattle.std.proofs.lemmas.Bool.{and_parts, or_parts, ltb-true, ltb-false, not-true, false_from_ne_true, and_from}
@@ -48,7 +49,8 @@ some_by new attributes at true is found =
 some_by new attributes at false is found = absurd (cc)
 
 -- where the attribute is put
-pub placed-Some : (new : Attribute) (attributes : List Attribute) (at : ℕ) → position (λ other. same_expanded other.name new.name) attributes ≡ Some at → slice_set attributes at new ≡ placed new attributes
+pub placed-Some : (new : Attribute) (attributes : List Attribute) (at : ℕ) → position (λ other. same_expanded other.name new.name) attributes ≡ Some at
+    → slice_set attributes at new ≡ placed new attributes
 placed-Some new attributes at found = some_by new attributes at (nat_lt (position_or_len (is_named_as new) attributes) (length attributes)) refl found
 
 none_by : (new : Attribute) (attributes : List Attribute) (is : Bool) → nat_lt (position_or_len (is_named_as new) attributes) (length attributes) ≡ is
@@ -132,7 +134,8 @@ are_distinct-placed new (old ∷ later) distinct =
 -- an element's attributes have expanded names that differ
 pub attributes_distinct : (before : List Attribute) (events : List ResultEvent) → are_distinct before ≡ true → are_distinct (attributes_from before events) ≡ true
 attributes_distinct before [] distinct = distinct
-attributes_distinct before (Attr name value ∷ events) distinct = attributes_distinct (placed (record { name = name; value = value }) before) events (are_distinct-placed (record { name = name; value = value }) before distinct)
+attributes_distinct before (Attr name value ∷ events) distinct =
+    attributes_distinct (placed (record { name = name; value = value }) before) events (are_distinct-placed (record { name = name; value = value }) before distinct)
 attributes_distinct before (Start name ∷ events) distinct = distinct
 attributes_distinct before (Text text ∷ events) distinct = distinct
 attributes_distinct before (Instruction target value ∷ events) distinct = distinct

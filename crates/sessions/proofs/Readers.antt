@@ -50,7 +50,8 @@ behind_at steps [] i other behind below = absurd (omega arith)
 behind_at steps (follower ∷ followers) zero other behind below = behind.0
 behind_at steps (follower ∷ followers) (suc i) other behind below = behind_at steps followers i other behind.1 (omega arith)
 
-pub behind_set : (steps : List Step) (followers : List Follower) (i : ℕ) (next : Follower) → AreBehind steps followers → IsBehind next.walker steps next.text.items → AreBehind steps (set followers i next)
+pub behind_set : (steps : List Step) (followers : List Follower) (i : ℕ) (next : Follower) → AreBehind steps followers → IsBehind next.walker steps next.text.items
+    → AreBehind steps (set followers i next)
 behind_set steps [] i next behind it = tt
 behind_set steps (follower ∷ followers) zero next behind it = (it, behind.1)
 behind_set steps (follower ∷ followers) (suc i) next behind it = (behind.0, behind_set steps followers i next behind.1 it)

@@ -1,5 +1,6 @@
 -- The bindings of a scope, by the entry that numbers it.
-use Rattle.std.proofs.Common.{◌≡◌, ℕ, zero, suc, ◌+◌, ◌-◌, ◌<◌, ◌≤◌, nat_lt, ◌==◌, if◌then◌else◌, List, [], ◌∷◌, ◌++◌, Some, None, true, false, sym, ◌∙◌, ap, subst, reverse, length, refl, get_or, arith}
+use Rattle.std.proofs.Common.{◌≡◌, ℕ, zero, suc, ◌+◌, ◌-◌, ◌<◌, ◌≤◌, nat_lt, ◌==◌, if◌then◌else◌, List, [], ◌∷◌, ◌++◌, Some, None, true, false, sym}
+use Rattle.std.proofs.Common.{◌∙◌, ap, subst, reverse, length, refl, get_or, arith}
 use Rattle.std.proofs.lemmas.Grind.{common_steps}
 use Rattle.std.proofs.lemmas.List.{reverse-append, reverse-reverse, length-reverse, get_or_append_left}
 use Rattle.std.proofs.lemmas.Option.{slice_get_within, get_or_from_slice_get}
@@ -51,7 +52,18 @@ pub nested : (all : List ScopeEntry) (k : ℕ) (d : ScopeEntry) → k < length a
     → in_force_among all (k + 1) ≡ binding_of (get_or (reverse all) k d) ∷ in_force_among all (around (get_or (reverse all) k d) (k + 1))
 nested [] k d h = absurd (omega (arith, h))
 nested (it ∷ all) k d h =
-    grind (arith, common_steps, nested all k d, latest it all, around_latest it all, latest_placed it all d, earlier_placed it all k d, earlier it all (k + 1), around_earlier it (get_or (reverse all) k d) all k)
+    grind (
+      arith,
+      common_steps,
+      nested all k d,
+      latest it all,
+      around_latest it all,
+      latest_placed it all d,
+      earlier_placed it all k d,
+      earlier it all (k + 1),
+      around_earlier it
+          (get_or (reverse all) k d) all k,
+    )
 
 past : (entries : List ScopeEntry) (k : ℕ) → slice_get entries k ≡ None → length entries ≤ k
 past [] k is = omega arith

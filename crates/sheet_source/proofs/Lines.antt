@@ -67,7 +67,8 @@ stopped meant building before ahead (error.Line NoMemory) line is at next = tt
 stopped meant building before ahead error.Memory line is at next = tt
 
 -- the checker refuses a line
-pub line_stopped : (meant : Result Document Flaw) (building : Building) (before : List Line) (line : Line) (ahead later : List (Result Line Refusal)) (stop : SourceStop) → meant ≡ rest_of building before ahead
+pub line_stopped : (meant : Result Document Flaw) (building : Building) (before : List Line) (line : Line) (ahead later : List (Result Line Refusal)) (stop : SourceStop)
+    → meant ≡ rest_of building before ahead
     → ahead ≡ Ok line ∷ later → IfSome (flaw_in stop) (λ flaw. line_flaw sheet_limits true before line ≡ Some flaw) → Answers meant (Err stop)
 line_stopped meant building before line ahead later (Flawed flaw) is next flawed =
     is ∙ ap (λ (lines : List (Result Line Refusal)). rest_of building before lines) next ∙ rest_flawed building before line later flaw flawed

@@ -40,7 +40,8 @@ encloses nodes stack start [] = refl
 encloses nodes stack start (more ∷ lists) = refl
 
 -- an element begins
-opened_event : (nodes : List Node) (stack : List Element) (scopes : List ScopeEntry) (count : ℕ) (row : Row) (attributes : List Row) (declared : List Binding) (uris : List ℕ) (line : ℕ) (events : List Event)
+opened_event : (nodes : List Node) (stack : List Element) (scopes : List ScopeEntry) (count : ℕ) (row : Row) (attributes : List Row) (declared : List Binding) (uris : List ℕ)
+    (line : ℕ) (events : List Event)
     → is_element row.kind ≡ true
     → whole nodes (opened (start_of (starts stack) count row attributes declared line) ∷ stack) (scopes ++ entries_of (innermost (starts stack)) count declared) (count + length declared) events
     ≡ whole nodes stack scopes count (event.Node row attributes declared uris line ∷ events)
@@ -49,7 +50,8 @@ opened_event nodes stack scopes count row attributes declared uris line events i
       nodes = all;
       scopes = (scopes ++ entries_of (innermost (starts stack)) count declared)
           ++ scopes_from (start_of (starts stack) count row attributes declared line ∷ starts stack) (count + length declared) events;
-    }) (encloses nodes stack (start_of (starts stack) count row attributes declared line) (nodes_from (start_of (starts stack) count row attributes declared line ∷ starts stack) (count + length declared) events))
+    }) (encloses nodes stack (start_of (starts stack) count row attributes declared line)
+    (nodes_from (start_of (starts stack) count row attributes declared line ∷ starts stack) (count + length declared) events))
     ∙ ap (λ (all : List ScopeEntry). record {
       nodes = shut_all nodes stack (enclosed (start_of (starts stack) count row attributes declared line)
           (nodes_from (start_of (starts stack) count row attributes declared line ∷ starts stack) (count + length declared) events));

@@ -1,5 +1,6 @@
 -- Loops that go on from the left, by equations.
-use Rattle.std.proofs.Common.{◌≡◌, refl, sym, ap, ◌∙◌, subst, ℕ, suc, ◌+◌, ◌<◌, ◌≤◌, arith, List, [], ◌∷◌, ◌++◌, length, take, drop, drop-cons, get_or, map, map-id, take-append-drop, add-one, append_assoc, append-nil, Result, Ok, Err}
+use Rattle.std.proofs.Common.{◌≡◌, refl, sym, ap, ◌∙◌, subst, ℕ, suc, ◌+◌, ◌<◌, ◌≤◌, arith, List, [], ◌∷◌, ◌++◌, length, take, drop, drop-cons}
+use Rattle.std.proofs.Common.{get_or, map, map-id, take-append-drop, add-one, append_assoc, append-nil, Result, Ok, Err}
 use Rattle.std.specs.Result.{IsErrAnd}
 use Rattle.std.proofs.lemmas.Result.{err_from_is_err_and}
 use Rattle.std.proofs.lemmas.Grind.{common_steps}
@@ -24,7 +25,8 @@ pub prepend_more : {B : Type 0} (out : List B) (a : Result B SheetKind) (y : B) 
 prepend_more out a y (Ok ys) e = rw e (ap Ok (sym (append_assoc out (y ∷ []) ys)))
 prepend_more out a y (Err f) e = rw e refl
 
-pub prepend_stops : {B : Type 0} (out : List B) (a : Result B SheetKind) (rest whole : Result (List B) SheetKind) (r : Result (List B) ValueStop) (e : ValueStop) → whole ≡ prepend out (next a rest) → IsErrAnd r (λ s. s ≡ e) → Answers a (Err e) → Answers whole r
+pub prepend_stops : {B : Type 0} (out : List B) (a : Result B SheetKind) (rest whole : Result (List B) SheetKind) (r : Result (List B) ValueStop) (e : ValueStop)
+    → whole ≡ prepend out (next a rest) → IsErrAnd r (λ s. s ≡ e) → Answers a (Err e) → Answers whole r
 prepend_stops out a rest whole r (stop.Refused f) w h n = let p = err_from_is_err_and r h in subst (λ q. Answers whole q) (sym (p.1 ∙ ap Err p.2)) (w ∙ rw n refl)
 prepend_stops out a rest whole r stop.Memory w h n = let p = err_from_is_err_and r h in subst (λ q. Answers whole q) (sym (p.1 ∙ ap Err p.2)) tt
 

@@ -41,7 +41,8 @@ pub front_goes_on : (n m : ℕ) (xs ys : List ℕ) → within (number_behind n x
 front_goes_on n m xs ys is = ap (λ k. number_behind k ys) (is_itself (number_behind n xs) m is) ∙ sym (one_after_another n xs ys)
 
 -- one more digit makes all too great
-pub one_too_many : (n first i : ℕ) (xs : List ℕ) → i < length xs → number_behind n (drop i xs) ≡ number_behind first xs → 100000000 < 10 * n + (get_or xs i 0 - 48) → None ≡ within (number_behind first xs)
+pub one_too_many : (n first i : ℕ) (xs : List ℕ) → i < length xs → number_behind n (drop i xs) ≡ number_behind first xs → 100000000 < 10 * n + (get_or xs i 0 - 48)
+    → None ≡ within (number_behind first xs)
 one_too_many n first i xs within_xs same over =
     let next : number_behind n (drop i xs) ≡ number_behind (10 * n + (get_or xs i 0 - 48)) (drop (suc i) xs) = ap (number_behind n) (drop-cons xs i 0 within_xs) in
     sym (too_great (number_behind first xs) (omega (arith, grows (10 * n + (get_or xs i 0 - 48)) (drop (suc i) xs), next, same)))
@@ -55,5 +56,6 @@ pub whole_too_great : (whole fraction : List ℕ) → within (number_behind 0 wh
 whole_too_great whole fraction is = neither (is_magnitude whole fraction) _ (front_too_great 0 whole (padded fraction) is)
 
 -- what stands behind a point goes on with what stands before it
-pub whole_goes_on : (whole fraction : List ℕ) (m : ℕ) → is_magnitude whole fraction ≡ true → within (number_behind 0 whole) ≡ Some m → within (number_behind m (padded fraction)) ≡ hundredths whole fraction
+pub whole_goes_on : (whole fraction : List ℕ) (m : ℕ) → is_magnitude whole fraction ≡ true → within (number_behind 0 whole) ≡ Some m
+    → within (number_behind m (padded fraction)) ≡ hundredths whole fraction
 whole_goes_on whole fraction m spelled is = rw spelled (ap within (front_goes_on 0 m whole (padded fraction) is))

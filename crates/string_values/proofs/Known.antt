@@ -14,23 +14,27 @@ use Rattle.doc_model.specs.Values.{value_need, string_value_of}
 use Rattle.doc_laws.proofs.Growth.{joined_grows, prefix_rows, row_at_grows}
 use Rattle.string_values.specs.Appended.{appended_to}
 
-joined_answer : (rules : List StripRule) (steps : List Step) (n : ℕ) → IsJoined steps n → string_value_of rules steps n ≡ once_shut steps (value_need (rows_of steps) n) (value_in rules (rows_of steps) n)
+joined_answer : (rules : List StripRule) (steps : List Step) (n : ℕ) → IsJoined steps n
+    → string_value_of rules steps n ≡ once_shut steps (value_need (rows_of steps) n) (value_in rules (rows_of steps) n)
 joined_answer rules steps n j = ap (λ b. cond b (once_shut steps (value_need (rows_of steps) n) (value_in rules (rows_of steps) n)) (Open n)) (lt-ltb n (length (rows_of steps)) j)
 
 -- of the root or an element that is shut, of one that is open, and of another row
-pub shut_value : (rules : List StripRule) (steps : List Step) (n : ℕ) → IsJoined steps n → is_parent (row_at (rows_of steps) n).kind ≡ true → is_open steps n ≡ false → string_value_of rules steps n ≡ Known (texts_below rules (rows_of steps) n)
+pub shut_value : (rules : List StripRule) (steps : List Step) (n : ℕ) → IsJoined steps n → is_parent (row_at (rows_of steps) n).kind ≡ true → is_open steps n ≡ false
+    → string_value_of rules steps n ≡ Known (texts_below rules (rows_of steps) n)
 shut_value rules steps n j p o =
     joined_answer rules steps n j
     ∙ ap (λ b. once_shut steps (cond b (Some n) None) (cond b (texts_below rules (rows_of steps) n) (value_at (rows_of steps) n))) p
     ∙ ap (λ b. cond b (Open n) (Known (texts_below rules (rows_of steps) n))) o
 
-pub open_value : (rules : List StripRule) (steps : List Step) (n : ℕ) → IsJoined steps n → is_parent (row_at (rows_of steps) n).kind ≡ true → is_open steps n ≡ true → string_value_of rules steps n ≡ Open n
+pub open_value : (rules : List StripRule) (steps : List Step) (n : ℕ) → IsJoined steps n → is_parent (row_at (rows_of steps) n).kind ≡ true → is_open steps n ≡ true
+    → string_value_of rules steps n ≡ Open n
 open_value rules steps n j p o =
     joined_answer rules steps n j
     ∙ ap (λ b. once_shut steps (cond b (Some n) None) (cond b (texts_below rules (rows_of steps) n) (value_at (rows_of steps) n))) p
     ∙ ap (λ b. cond b (Open n) (Known (texts_below rules (rows_of steps) n))) o
 
-pub own_value : (rules : List StripRule) (steps : List Step) (n : ℕ) → IsJoined steps n → is_parent (row_at (rows_of steps) n).kind ≡ false → string_value_of rules steps n ≡ Known (value_at (rows_of steps) n)
+pub own_value : (rules : List StripRule) (steps : List Step) (n : ℕ) → IsJoined steps n → is_parent (row_at (rows_of steps) n).kind ≡ false
+    → string_value_of rules steps n ≡ Known (value_at (rows_of steps) n)
 own_value rules steps n j p =
     joined_answer rules steps n j ∙ ap (λ b. once_shut steps (cond b (Some n) None) (cond b (texts_below rules (rows_of steps) n) (value_at (rows_of steps) n))) p
 

@@ -22,8 +22,10 @@ texts_stay_below : (rules : List StripRule) (p q : List Step) (n : ℕ) → Grow
 texts_stay_below rules p q n g l j o =
     let e : ℕ = extent_of (rows_of p) n in
     let s = shut_grows p q n g l j o in
-    let begun : Reached rules p n (extent_of (rows_of p) n) (extent_of (rows_of p) n) [] (texts_in rules (rows_of p) (suc n) (extent_of (rows_of p) n - suc n)) = record { joined = j; shut = o; ends = refl; texts = refl } in
-    let kept = reached_later rules p q n (extent_of (rows_of p) n) (extent_of (rows_of p) n) [] (texts_in rules (rows_of p) (suc n) (extent_of (rows_of p) n - suc n)) g l (omega arith) (omega arith) begun in
+    let begun : Reached rules p n (extent_of (rows_of p) n) (extent_of (rows_of p) n) [] (texts_in rules (rows_of p) (suc n) (extent_of (rows_of p) n - suc n)) =
+    record { joined = j; shut = o; ends = refl; texts = refl } in
+    let kept = reached_later rules p q n (extent_of (rows_of p) n) (extent_of (rows_of p) n) [] (texts_in rules (rows_of p) (suc n) (extent_of (rows_of p) n - suc n)) g l
+    (omega arith) (omega arith) begun in
     texts_below_are rules (rows_of q) n (extent_le (rows_of q) n kept.joined)
     ∙ ap (λ k. texts_in rules (rows_of q) (suc n) (k - suc n)) s.1
     ∙ sym kept.texts

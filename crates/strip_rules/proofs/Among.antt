@@ -60,7 +60,8 @@ first_is_visible rules rows n k h =
     }
 
 pub visible_is_first : (rules : List StripRule) (rows : List Row) (n k : ℕ) → IsFirstVisible rules rows n k → first_shown rules rows n ≡ Some k
-visible_is_first rules rows n k v = first_is (is_shown rules rows n) 0 (length rows) k (omega arith) (omega (arith, v.is.joined)) (shows rules rows n k v.is) (λ j a l. passes_not rules rows n j (λ c. v.before j l c))
+visible_is_first rules rows n k v =
+    first_is (is_shown rules rows n) 0 (length rows) k (omega arith) (omega (arith, v.is.joined)) (shows rules rows n k v.is) (λ j a l. passes_not rules rows n j (λ c. v.before j l c))
 
 pub next_is_visible : (rules : List StripRule) (rows : List Row) (m k : ℕ) → m < length rows → next_shown rules rows m ≡ Some k → IsNextVisible rules rows m k
 next_is_visible rules rows m k l h = go (sibling_parent rows m) refl
@@ -84,7 +85,8 @@ visible_is_next rules rows m k l v =
     let f : ℕ → Bool = is_shown rules rows v.parent in
     ap (next_shown_in rules rows m) v.shared
     ∙ ap first_of (after_of f m (length rows) l)
-    ∙ first_is f (suc m) (length rows - suc m) k (omega (arith, v.after)) (omega (arith, l, v.is.joined)) (shows rules rows v.parent k v.is) (λ j a b. passes_not rules rows v.parent j (λ c. v.between j (omega arith) b c))
+    ∙ first_is f (suc m) (length rows - suc m) k (omega (arith, v.after)) (omega (arith, l, v.is.joined)) (shows rules rows v.parent k v.is)
+    (λ j a b. passes_not rules rows v.parent j (λ c. v.between j (omega arith) b c))
 
 pub prev_is_visible : (rules : List StripRule) (rows : List Row) (m k : ℕ) → m < length rows → prev_shown rules rows m ≡ Some k → IsPrevVisible rules rows m k
 prev_is_visible rules rows m k l h = go (sibling_parent rows m) refl

@@ -21,7 +21,8 @@ record IsHeaviest (rules : List StripRule) (row : Row) (i : ℕ) (rule : StripRu
 
 -- either what was best before stays so, or a rule of the rest decides
 record Best (best : Option StripRule) (rules : List StripRule) (row : Row) (rule : StripRule) : Type 0 where
-  pub cases : ((best ≡ Some rule) × ((j : ℕ) (other : StripRule) → slice_get rules j ≡ Some other → rule_fits other row ≡ true → weight other < weight rule)) ⊎ ((i : ℕ) × IsHeaviest rules row i rule × ((b : StripRule) → best ≡ Some b → weight b ≤ weight rule))
+  pub cases : ((best ≡ Some rule) × ((j : ℕ) (other : StripRule) → slice_get rules j ≡ Some other → rule_fits other row ≡ true → weight other < weight rule))
+      ⊎ ((i : ℕ) × IsHeaviest rules row i rule × ((b : StripRule) → best ≡ Some b → weight b ≤ weight rule))
 
 holds_when : (x : StripRule) (best : Option StripRule) → holds_over x best ≡ true → (b : StripRule) → best ≡ Some b → weight b ≤ weight x
 holds_when x best h b e = leb-true (weight b) (weight x) (sym (outranks_is x b) ∙ sym (ap (holds_over x) e) ∙ h)
@@ -76,11 +77,13 @@ best_is best (x ∷ rules) row rule h = elim (cases_Bool (rule_fits x row && hol
               record { cases = inr (suc (s.0), after (s.0) s.1 above, λ c q. let d = holds_when x best p.1 c q in omega arith) }
         ]
       where
-        go_le : (j : ℕ) (other : StripRule) → slice_get (x ∷ rules) j ≡ Some other → rule_fits other row ≡ true → x ≡ rule → ((j : ℕ) (other : StripRule) → slice_get rules j ≡ Some other → rule_fits other row ≡ true → weight other < weight rule) → weight other ≤ weight rule
+        go_le : (j : ℕ) (other : StripRule) → slice_get (x ∷ rules) j ≡ Some other → rule_fits other row ≡ true → x ≡ rule
+            → ((j : ℕ) (other : StripRule) → slice_get rules j ≡ Some other → rule_fits other row ≡ true → weight other < weight rule) → weight other ≤ weight rule
         go_le zero other a f e low = let same : other ≡ rule = sym (same_rule x other a) ∙ e in subst (λ r. weight other ≤ weight r) same (omega arith)
         go_le (suc j) other a f e low = let d = low j other a f in omega arith
 
-        go_lt : (j : ℕ) (other : StripRule) → slice_get (x ∷ rules) j ≡ Some other → rule_fits other row ≡ true → 0 < j → ((j : ℕ) (other : StripRule) → slice_get rules j ≡ Some other → rule_fits other row ≡ true → weight other < weight rule) → weight other < weight rule
+        go_lt : (j : ℕ) (other : StripRule) → slice_get (x ∷ rules) j ≡ Some other → rule_fits other row ≡ true → 0 < j
+            → ((j : ℕ) (other : StripRule) → slice_get rules j ≡ Some other → rule_fits other row ≡ true → weight other < weight rule) → weight other < weight rule
         go_lt zero other a f l low = absurd (omega arith)
         go_lt (suc j) other a f l low = low j other a f
 
@@ -97,7 +100,8 @@ best_is best (x ∷ rules) row rule h = elim (cases_Bool (rule_fits x row && hol
       ]
     ]
       where
-        low : (j : ℕ) (other : StripRule) → slice_get (x ∷ rules) j ≡ Some other → rule_fits other row ≡ true → best ≡ Some rule → ((j : ℕ) (other : StripRule) → slice_get rules j ≡ Some other → rule_fits other row ≡ true → weight other < weight rule) → weight other < weight rule
+        low : (j : ℕ) (other : StripRule) → slice_get (x ∷ rules) j ≡ Some other → rule_fits other row ≡ true → best ≡ Some rule
+            → ((j : ℕ) (other : StripRule) → slice_get rules j ≡ Some other → rule_fits other row ≡ true → weight other < weight rule) → weight other < weight rule
         low zero other a f e lower =
             let same : x ≡ other = same_rule x other a in
             let fit : rule_fits x row ≡ true = ap (λ r. rule_fits r row) same ∙ f in
@@ -152,12 +156,14 @@ none_fits (x ∷ rules) row h j other a = elim (cases_Bool (rule_fits x row)) [
   | inr e ↦ go j a (none_fits rules row (sym (ap (λ c. best_from (cond (c && true) (Some x) None) rules row) e) ∙ h)) e
 ]
   where
-    go : (j : ℕ) → slice_get (x ∷ rules) j ≡ Some other → ((j : ℕ) (other : StripRule) → slice_get rules j ≡ Some other → rule_fits other row ≡ false) → rule_fits x row ≡ false → rule_fits other row ≡ false
+    go : (j : ℕ) → slice_get (x ∷ rules) j ≡ Some other → ((j : ℕ) (other : StripRule) → slice_get rules j ≡ Some other → rule_fits other row ≡ false) → rule_fits x row ≡ false
+        → rule_fits other row ≡ false
     go zero a rest e = ap (λ r. rule_fits r row) (sym (same_rule x other a)) ∙ e
     go (suc j) a rest e = rest j other a
 
 -- one row up
-keeps_above : (rows : List Row) (most k : ℕ) → ((up : ℕ) → parent_of rows k ≡ Some up → Keeps rows up (keeps_from rows most (parent_of rows up))) → (o : Option ℕ) → parent_of rows k ≡ o → Keeps rows k (keeps_from rows (suc most) o)
+keeps_above : (rows : List Row) (most k : ℕ) → ((up : ℕ) → parent_of rows k ≡ Some up → Keeps rows up (keeps_from rows most (parent_of rows up))) → (o : Option ℕ)
+    → parent_of rows k ≡ o → Keeps rows k (keeps_from rows (suc most) o)
 keeps_above rows most k further None e = Nowhere k e
 keeps_above rows most k further (Some up) e = said (space_in (drop (suc up) rows)) refl
   where

@@ -66,7 +66,8 @@ same_some : (a b : ℕ) → Some a ≡ Some b → a ≡ b
 same_some a b h = cc
 
 -- one more hidden sibling
-pub returns_on : (rules : List StripRule) (rows : List Row) (n at k : ℕ) → Returns rules rows n at → prev_shown [] rows at ≡ Some k → is_visible rules rows k ≡ false → Returns rules rows n k × (k < at)
+pub returns_on : (rules : List StripRule) (rows : List Row) (n at k : ℕ) → Returns rules rows n at → prev_shown [] rows at ≡ Some k → is_visible rules rows k ≡ false
+    → Returns rules rows n k × (k < at)
 returns_on rules rows n at k s h v =
     let r = prev_kid rows at k h in
     let t = r.1 in (
@@ -97,7 +98,8 @@ last_of-push (x ∷ xs) k = ap (λ j. Some j) (last_from-push x xs k)
     last_from-push x (y ∷ ys) k = last_from-push y ys k
 
 -- the sibling before that is visible
-pub returns_found : (rules : List StripRule) (rows : List Row) (n at k : ℕ) → Returns rules rows n at → prev_shown [] rows at ≡ Some k → is_visible rules rows k ≡ true → prev_shown rules rows n ≡ Some k
+pub returns_found : (rules : List StripRule) (rows : List Row) (n at k : ℕ) → Returns rules rows n at → prev_shown [] rows at ≡ Some k → is_visible rules rows k ≡ true
+    → prev_shown rules rows n ≡ Some k
 returns_found rules rows n at k s h v =
     let r = prev_kid rows at k h in
     let t = r.1 in

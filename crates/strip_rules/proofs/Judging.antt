@@ -8,7 +8,8 @@ use Rattle.doc_model.specs.Rows.{root_row, row_at}
 use Rattle.doc_model.specs.Strip.{is_visible, is_blank, row_or_root, says_strip, best_from, strips, is_element, keeps_space}
 
 pub other_is_visible : (rules : List StripRule) (rows : List Row) (n : ℕ) → is_blank (row_at rows n) ≡ false → is_visible rules rows n ≡ true
-other_is_visible rules rows n h = ap not (and_right (strips rules (row_or_root rows (parent_of rows n))) (is_blank (row_at rows n) && not (keeps_space rows n)) (ap (λ b. b && not (keeps_space rows n)) h))
+other_is_visible rules rows n h =
+    ap not (and_right (strips rules (row_or_root rows (parent_of rows n))) (is_blank (row_at rows n) && not (keeps_space rows n)) (ap (λ b. b && not (keeps_space rows n)) h))
 
 -- the root is no element
 pub top_is_visible : (rules : List StripRule) (rows : List Row) (n : ℕ) → parent_of rows n ≡ None → is_visible rules rows n ≡ true
@@ -21,7 +22,8 @@ unstripped_is_visible rules rows n up e h =
     ap (λ o. not (strips rules (row_or_root rows o) && (is_blank (row_at rows n) && not (keeps_space rows n)))) e
     ∙ ap (λ b. not (b && (is_blank (row_at rows n) && not (keeps_space rows n)))) h
 
-pub space_decides : (rules : List StripRule) (rows : List Row) (n up : ℕ) → parent_of rows n ≡ Some up → strips rules (row_at rows up) ≡ true → is_blank (row_at rows n) ≡ true → is_visible rules rows n ≡ keeps_space rows n
+pub space_decides : (rules : List StripRule) (rows : List Row) (n up : ℕ) → parent_of rows n ≡ Some up → strips rules (row_at rows up) ≡ true → is_blank (row_at rows n) ≡ true
+    → is_visible rules rows n ≡ keeps_space rows n
 space_decides rules rows n up e h b =
     ap (λ o. not (strips rules (row_or_root rows o) && (is_blank (row_at rows n) && not (keeps_space rows n)))) e
     ∙ ap (λ x. not (x && (is_blank (row_at rows n) && not (keeps_space rows n)))) h

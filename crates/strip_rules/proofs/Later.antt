@@ -47,7 +47,8 @@ runs_past s (Shut ∷ steps) xs l = runs_past (after s Shut) steps xs l.2
 runs_past s (End v ∷ steps) xs l = runs_past (after s (End v)) steps xs l.2
 
 -- the attributes right after a row that is there are there too
-pub runs_later : (p q : List Step) (n : ℕ) → Grows p q → IsLawful q → IsJoined p n → (attribute_run (drop (suc n) (rows_of q)) ≡ attribute_run (drop (suc n) (rows_of p))) × (space_in (drop (suc n) (rows_of q)) ≡ space_in (drop (suc n) (rows_of p)))
+pub runs_later : (p q : List Step) (n : ℕ) → Grows p q → IsLawful q → IsJoined p n
+    → (attribute_run (drop (suc n) (rows_of q)) ≡ attribute_run (drop (suc n) (rows_of p))) × (space_in (drop (suc n) (rows_of q)) ≡ space_in (drop (suc n) (rows_of p)))
 runs_later p q n g l j =
     let split = lawful_split p (g.0) (subst (λ xs. LawfulFrom start xs) (sym (g.1)) l.each) in
     let e : rows_of q ≡ rows_of p ++ rows_given (g.0) = ap rows_of (sym (g.1)) ∙ rows-append p (g.0) in

@@ -1,5 +1,6 @@
 -- Passing over hidden siblings.
-use Rattle.std.proofs.Common.{◌≡◌, ℕ, suc, ◌+◌, ◌-◌, ◌<◌, ◌≤◌, Bool, true, false, cond, ◌&&◌, ltb, List, [], ◌∷◌, ◌++◌, length, Option, Some, None, filter, refl, ap, sym, ◌∙◌, subst, arith, length-append, inl, inr}
+use Rattle.std.proofs.Common.{◌≡◌, ℕ, suc, ◌+◌, ◌-◌, ◌<◌, ◌≤◌, Bool, true, false, cond, ◌&&◌, ltb, List, [], ◌∷◌, ◌++◌, length, Option, Some, None}
+use Rattle.std.proofs.Common.{filter, refl, ap, sym, ◌∙◌, subst, arith, length-append, inl, inr}
 use Rattle.std.proofs.lemmas.Bool.{and_right, cases_lt, cases_eq}
 use Rattle.doc_model.specs.declared.row.Row.{Row}
 use Rattle.doc_model.specs.declared.step.Step.{Step}
@@ -39,7 +40,8 @@ passes_later rules p q n at g s =
     subst (λ rows. Passes rules rows n at) (sym r.1) go
 
 -- the visible siblings after n are those after at
-same_after : (rules : List StripRule) (rows : List Row) (n at p : ℕ) → Passes rules rows n at → sibling_parent rows n ≡ Some p → first_of (filter (ltb n) (shown_of rules rows p)) ≡ first_of (filter (ltb at) (shown_of rules rows p))
+same_after : (rules : List StripRule) (rows : List Row) (n at p : ℕ) → Passes rules rows n at → sibling_parent rows n ≡ Some p
+    → first_of (filter (ltb n) (shown_of rules rows p)) ≡ first_of (filter (ltb at) (shown_of rules rows p))
 same_after rules rows n at p s e =
     let f : ℕ → Bool = is_shown rules rows p in
     let c : ℕ = length rows in
@@ -123,7 +125,8 @@ passes_found rules rows n at k s h v =
     let cut : c - suc at ≡ (k - suc at) + suc (c - suc k) = omega (arith, t.within, t.above) in
     let next : suc at + (k - suc at) ≡ k = omega (arith, t.above) in
     let yes : f k ≡ true = ap (λ b. b && is_child rows r.0 k) v ∙ t.kid in
-    let none : filter f (numbers (suc at) (k - suc at)) ≡ [] = filter_nothing f (suc at) (k - suc at) (λ j a b. and_right (is_visible rules rows j) (is_child rows r.0 j) (t.none j (omega arith) (omega (arith, t.above)))) in
+    let none : filter f (numbers (suc at) (k - suc at)) ≡ [] =
+    filter_nothing f (suc at) (k - suc at) (λ j a b. and_right (is_visible rules rows j) (is_child rows r.0 j) (t.none j (omega arith) (omega (arith, t.above)))) in
     same_next rules rows n at s ∙ ap (next_shown_in rules rows at) t.parent
     ∙ ap first_of (after_of f at c s.within
     ∙ ap (λ j. filter f (numbers (suc at) j)) cut
@@ -183,7 +186,8 @@ first_found rules rows n k h v =
     ∙ filter_yes f k (numbers (suc k) (c - suc k)) yes)
 
 -- the first child is hidden: what is first is what is next after it
-pub first_hidden : (rules : List StripRule) (rows : List Row) (n k : ℕ) → first_shown [] rows n ≡ Some k → is_visible rules rows k ≡ false → (first_shown rules rows n ≡ next_shown rules rows k) × (sibling_parent rows k ≡ Some n)
+pub first_hidden : (rules : List StripRule) (rows : List Row) (n k : ℕ) → first_shown [] rows n ≡ Some k → is_visible rules rows k ≡ false
+    → (first_shown rules rows n ≡ next_shown rules rows k) × (sibling_parent rows k ≡ Some n)
 first_hidden rules rows n k h v =
     let t = first_kid rows n k h in
     let f : ℕ → Bool = is_shown rules rows n in

@@ -47,7 +47,8 @@ module _ (rules : List StripRule) (row : Row) (i : ℕ) (strip : Bool) (best : �
   -- a rule that holds over those before
   pub ruled_better : rule_fits rule row ≡ true → best ≤ weight rule → Ruled rules row (i + 1) rule.strip (weight rule)
   ruled_better f h =
-      let z : (rule_fits rule row && holds_over rule j.chosen) ≡ true = ap (λ b. b && holds_over rule j.chosen) f ∙ over rule j.chosen ∙ le-leb (weight_of j.chosen) (weight rule) (omega (arith, h, j.weights)) in
+      let z : (rule_fits rule row && holds_over rule j.chosen) ≡ true =
+      ap (λ b. b && holds_over rule j.chosen) f ∙ over rule j.chosen ∙ le-leb (weight_of j.chosen) (weight rule) (omega (arith, h, j.weights)) in
       record { chosen = Some rule; says = refl; weights = refl; left = sym (ap (λ b. best_from (cond b (Some rule) j.chosen) (drop (i + 1) rules) row) z) ∙ left }
 
 pub ruled_end : (rules : List StripRule) (row : Row) (i : ℕ) (strip : Bool) (best : ℕ) → i ≡ length rules → Ruled rules row i strip best → strip ≡ says_strip (best_from None rules row)

@@ -44,12 +44,14 @@ module _ {M : Type 0} (rules : List StripRule) (r s t : Seen M) (n at : ℕ) (so
       let on = passes_on rules (rows_of t.steps) n at k here (bare (Some k) h) (seen_before u k false m (skip_within k h) v) in
       (passes_later rules t.steps u.steps n k m.grows on.0, on.1)
 
-  pub skip_end : next_shown t.rules (rows_of t.steps) at ≡ None → is_settled t.steps (sibling_parent (rows_of t.steps) at) ≡ true → (next_shown rules (rows_of t.steps) n ≡ None) × (is_settled t.steps (sibling_parent (rows_of t.steps) n) ≡ true)
+  pub skip_end : next_shown t.rules (rows_of t.steps) at ≡ None → is_settled t.steps (sibling_parent (rows_of t.steps) at) ≡ true
+      → (next_shown rules (rows_of t.steps) n ≡ None) × (is_settled t.steps (sibling_parent (rows_of t.steps) n) ≡ true)
   skip_end h e = (passes_end rules (rows_of t.steps) n at here (bare None h), ap (is_settled t.steps) (sym here.parent) ∙ e)
 
   pub skip_not_yet : AtStep s.steps t.steps (λ p. (next_shown t.rules (rows_of p) at ≡ None) × (is_settled p (sibling_parent (rows_of p) at) ≡ false))
       → AtStep r.steps t.steps (λ p. (next_shown rules (rows_of p) n ≡ None) × (is_settled p (sibling_parent (rows_of p) n) ≡ false))
-  skip_not_yet a = passes_not_yet rules r.steps s.steps t.steps n at so_far.grows passes (subst (λ rs. AtStep s.steps t.steps (λ p. (next_shown rs (rows_of p) at ≡ None) × (is_settled p (sibling_parent (rows_of p) at) ≡ false))) no_rules a)
+  skip_not_yet a = passes_not_yet rules r.steps s.steps t.steps n at so_far.grows passes
+      (subst (λ rs. AtStep s.steps t.steps (λ p. (next_shown rs (rows_of p) at ≡ None) × (is_settled p (sibling_parent (rows_of p) at) ≡ false))) no_rules a)
 
 module _ {M : Type 0} (rules : List StripRule) (r s t : Seen M) (n at : ℕ) (so_far : Moves r s) (plain : r.rules ≡ []) (returning : Returns rules (rows_of s.steps) n at) (moves : Moves s t) where
   none_there : t.rules ≡ []
@@ -101,12 +103,14 @@ module _ {M : Type 0} (rules : List StripRule) (s t u : Seen M) (n k : ℕ) (pla
       (first_found rules (rows_of t.steps) n k (bare_first (Some k) t.steps h) (here_is true h v))
 
   -- the first child is hidden, on all later steps
-  pub enter_on : first_shown t.rules (rows_of t.steps) n ≡ Some k → false ≡ is_visible rules (rows_of u.steps) k → (p : List Step) → Grows t.steps p → IsLawful p → (first_shown rules (rows_of p) n ≡ next_shown rules (rows_of p) k) × (sibling_parent (rows_of p) k ≡ Some n)
+  pub enter_on : first_shown t.rules (rows_of t.steps) n ≡ Some k → false ≡ is_visible rules (rows_of u.steps) k → (p : List Step) → Grows t.steps p → IsLawful p
+      → (first_shown rules (rows_of p) n ≡ next_shown rules (rows_of p) k) × (sibling_parent (rows_of p) k ≡ Some n)
   enter_on h v p g l =
       let kept = (links_stay [] t.steps p n g l (joined_grows s.steps t.steps n moves.grows joined)).first.node k (bare_first (Some k) t.steps h) in
       first_hidden rules (rows_of p) n k kept (visible_later rules t.steps p k g (enter_within h) ∙ here_is false h v)
 
-pub enter_nothing : {M : Type 0} (rules : List StripRule) (s t : Seen M) (n : ℕ) → s.rules ≡ [] → Moves s t → (p : List Step) → first_shown t.rules (rows_of p) n ≡ None → first_shown rules (rows_of p) n ≡ None
+pub enter_nothing : {M : Type 0} (rules : List StripRule) (s t : Seen M) (n : ℕ) → s.rules ≡ [] → Moves s t → (p : List Step) → first_shown t.rules (rows_of p) n ≡ None
+    → first_shown rules (rows_of p) n ≡ None
 enter_nothing rules s t n plain moves p h = first_none_left rules (rows_of p) n (ap (λ rs. first_shown rs (rows_of p) n) (sym (moves.rules_stay ∙ plain)) ∙ h)
 
 -- what the walk from the hidden first child answers is answered of the first child

@@ -1,5 +1,6 @@
 -- What xml:space says on the way along the attributes of a row, and up to its ancestors.
-use Rattle.std.proofs.Common.{◌≡◌, ℕ, zero, suc, ◌+◌, ◌<◌, ◌≤◌, Bool, true, false, cond, List, [], ◌∷◌, ◌++◌, length, Some, None, drop, refl, ap, sym, ◌∙◌, subst, arith, length-drop, inl, inr, codes, bytes_eq}
+use Rattle.std.proofs.Common.{◌≡◌, ℕ, zero, suc, ◌+◌, ◌<◌, ◌≤◌, Bool, true, false, cond, List, [], ◌∷◌, ◌++◌, length, Some, None, drop, refl, ap}
+use Rattle.std.proofs.Common.{sym, ◌∙◌, subst, arith, length-drop, inl, inr, codes, bytes_eq}
 use Rattle.std.proofs.lemmas.Bool.{cases_Bool}
 use Rattle.std.proofs.lemmas.List.{drop_more}
 use Rattle.doc_model.specs.declared.row.Row.{Row}
@@ -92,7 +93,8 @@ saying_later p q n i count g l s =
     let e : suc n + i ≡ suc (n + i) = omega arith in
     let a = runs_later p q n g l (let j = s.joined in omega arith) in
     let b = runs_later p q (n + i) g l (let j = s.joined in omega arith) in
-    let run : attribute_run (drop (suc n + i) (rows_of q)) ≡ attribute_run (drop (suc n + i) (rows_of p)) = ap (λ k. attribute_run (drop k (rows_of q))) e ∙ b.0 ∙ sym (ap (λ k. attribute_run (drop k (rows_of p))) e) in
+    let run : attribute_run (drop (suc n + i) (rows_of q)) ≡ attribute_run (drop (suc n + i) (rows_of p)) =
+    ap (λ k. attribute_run (drop k (rows_of q))) e ∙ b.0 ∙ sym (ap (λ k. attribute_run (drop k (rows_of p))) e) in
     let space : space_in (drop (suc n + i) (rows_of q)) ≡ space_in (drop (suc n + i) (rows_of p)) = ap (λ k. space_in (drop k (rows_of q))) e ∙ b.1 ∙ sym (ap (λ k. space_in (drop k (rows_of p))) e) in
     record {
       joined = longer p q (suc n + i) g s.joined;
@@ -121,10 +123,12 @@ pub keeping_end : (rows : List Row) (n at : ℕ) → Keeping rows n at → paren
 keeping_end rows n at k e = sym k.same ∙ ap (keeps_from rows k.most) e ∙ no_parent rows k.most
 
 -- one row up
-pub keeping_up : (rows : List Row) (n at p : ℕ) → Keeping rows n at → parent_of rows at ≡ Some p → (space_in (drop (suc p) rows) ≡ None → Keeping rows n p) × ((b : Bool) → space_in (drop (suc p) rows) ≡ Some b → keeps_space rows n ≡ b)
+pub keeping_up : (rows : List Row) (n at p : ℕ) → Keeping rows n at → parent_of rows at ≡ Some p
+    → (space_in (drop (suc p) rows) ≡ None → Keeping rows n p) × ((b : Bool) → space_in (drop (suc p) rows) ≡ Some b → keeps_space rows n ≡ b)
 keeping_up rows n at p k e = go k.most k.room k.same
   where
-    go : (most : ℕ) → at ≤ most → keeps_from rows most (parent_of rows at) ≡ keeps_space rows n → (space_in (drop (suc p) rows) ≡ None → Keeping rows n p) × ((b : Bool) → space_in (drop (suc p) rows) ≡ Some b → keeps_space rows n ≡ b)
+    go : (most : ℕ) → at ≤ most → keeps_from rows most (parent_of rows at) ≡ keeps_space rows n
+        → (space_in (drop (suc p) rows) ≡ None → Keeping rows n p) × ((b : Bool) → space_in (drop (suc p) rows) ≡ Some b → keeps_space rows n ≡ b)
     go zero room same = absurd (let b = parent_before rows at p e in omega (arith, b.0))
     go (suc most) room same =
         let b = parent_before rows at p e in

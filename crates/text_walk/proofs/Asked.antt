@@ -1,5 +1,6 @@
 -- What an answer makes of the place of a walk.
-use Rattle.std.proofs.Common.{◌≡◌, ℕ, ◌+◌, ◌-◌, ◌^◌, ◌<◌, ◌≤◌, Bool, true, false, cond, not, nat_le, List, [], ◌∷◌, ◌++◌, Some, None, Result, Ok, Err, OnErr, unwrap_or, refl, ap, sym, ◌∙◌, subst, arith, inl, inr, ◌⊎◌}
+use Rattle.std.proofs.Common.{◌≡◌, ℕ, ◌+◌, ◌-◌, ◌^◌, ◌<◌, ◌≤◌, Bool, true, false, cond, not, nat_le, List, [], ◌∷◌, ◌++◌, Some, None, Result, Ok}
+use Rattle.std.proofs.Common.{Err, OnErr, unwrap_or, refl, ap, sym, ◌∙◌, subst, arith, inl, inr, ◌⊎◌}
 use mir.Val.{bool_byte}
 use Rattle.std.proofs.lemmas.Bool.{not-true, false≢true}
 use Rattle.doc_model.specs.declared.look.Look.TheVariants as look
@@ -36,7 +37,8 @@ moved_grows a b (inl h) = subst (λ s. Grows a.steps s.steps) (sym h) (Grows-ref
 moved_grows a b (inr h) = h.grows
 
 -- a walker that is behind what is seen is under way in it
-pub caught_up : {M : Type 0} (b c : Seen M) (n : ℕ) (down : Bool) (depth : ℕ) (bytes : List ℕ) (made : ℕ) → Moves b c → IsBehind (at n down depth made) b.steps bytes → IsUnderWay (at n down depth made) b.steps bytes
+pub caught_up : {M : Type 0} (b c : Seen M) (n : ℕ) (down : Bool) (depth : ℕ) (bytes : List ℕ) (made : ℕ) → Moves b c → IsBehind (at n down depth made) b.steps bytes
+    → IsUnderWay (at n down depth made) b.steps bytes
 caught_up b c n down depth bytes made m s = way_later s.0 b.steps n down depth bytes made s.1 (lawful_before b.steps c.steps m.grows m.seen.lawful) s.2
 
 pub behind_joined : (p : List Step) (n : ℕ) (down : Bool) (depth : ℕ) (bytes : List ℕ) (made : ℕ) → IsBehind (at n down depth made) p bytes → IsJoined p n
@@ -56,7 +58,8 @@ module _ {M : Type 0} (a b c : Seen M) (rules : a.rules ≡ []) (moves : Moves a
   later : (down : Bool) → IsUnderWay (at n down depth made) b.steps bytes → IsUnderWay (at n down depth made) c.steps bytes
   later down s = way_later b.steps c.steps n down depth bytes made now.grows now.seen.lawful s
 
-  pub asked_node : (down : Bool) (k : ℕ) → IsUnderWay (at n down depth made) b.steps bytes → AskedIs b c n down (look.Node k) → IsAhead c.steps k (depth + cond down 1 0) bytes made × (k ≡ past_at (rows_of b.steps) n down)
+  pub asked_node : (down : Bool) (k : ℕ) → IsUnderWay (at n down depth made) b.steps bytes → AskedIs b c n down (look.Node k)
+      → IsAhead c.steps k (depth + cond down 1 0) bytes made × (k ≡ past_at (rows_of b.steps) n down)
   asked_node true k s h =
       let f : first_child (rows_of c.steps) n ≡ Some k = subst (λ (r : List StripRule). first_shown r (rows_of c.steps) n ≡ Some k) no_rules h in
       let r = child_ahead c.steps n depth k bytes made now.seen.lawful (later true s) f in
@@ -138,7 +141,8 @@ taken p k depth bytes made more event count a h t e m =
     let n : count ≡ events_in (row_at (rows_of p) k ∷ []) = m ∙ sym (event_alone (row_at (rows_of p) k) event (sym e)) in
     subst (λ j. IsUnderWay (at k true depth (made + j)) p more) (sym n) (subst (λ xs. IsUnderWay (at k true depth (made + events_in (row_at (rows_of p) k ∷ []))) p xs) (sym t) s)
 
-pub taken_further : (p : List Step) (k depth : ℕ) (bytes : List ℕ) (made past n : ℕ) (down : Bool) → IsLawful p → IsAhead p k depth bytes made → k ≡ past → left_of (past_at (rows_of p) k true) k true < left_of past n down
+pub taken_further : (p : List Step) (k depth : ℕ) (bytes : List ℕ) (made past n : ℕ) (down : Bool) → IsLawful p → IsAhead p k depth bytes made → k ≡ past
+    → left_of (past_at (rows_of p) k true) k true < left_of past n down
 taken_further p k depth bytes made past n down l a e =
     let fits = past_fits p k true a.joined in
     let j = a.joined in

@@ -1,5 +1,6 @@
 -- How the links of the rows of a lawful list stand to extents: a subtree is a run of rows.
-use Rattle.std.proofs.Common.{◌≡◌, ℕ, zero, suc, ◌+◌, ◌-◌, ◌<◌, ◌≤◌, Bool, true, false, cond, not, ◌&&◌, ◌||◌, eqb, ltb, List, [], ◌∷◌, ◌++◌, length, Option, Some, None, drop, filter, refl, ap, sym, ◌∙◌, subst, arith, length-append, inl, inr, ◌⊎◌}
+use Rattle.std.proofs.Common.{◌≡◌, ℕ, zero, suc, ◌+◌, ◌-◌, ◌<◌, ◌≤◌, Bool, true, false, cond, not, ◌&&◌, ◌||◌, eqb, ltb, List, [], ◌∷◌, ◌++◌, length}
+use Rattle.std.proofs.Common.{Option, Some, None, drop, filter, refl, ap, sym, ◌∙◌, subst, arith, length-append, inl, inr, ◌⊎◌}
 use Rattle.std.specs.Bool.{⊤}
 use Rattle.std.proofs.lemmas.Bool.{cases_Bool, cases_lt, cases_order, cases_eq, lt-ltb, eq-eqb, eqb-true, ne_eqb, or_cases, false≢true}
 use Rattle.doc_model.specs.declared.row.Kind.{Kind}
@@ -194,7 +195,8 @@ module _ (rows : List Row) (o : ℕ) (os : List ℕ) (row : Row) (attributes : L
           elim (cases_eq o n) [
             | inr ne ↦ ordered.first n m lt (sym (first_join_other rows o os row attributes stack joins n ne) ∙ h) ∙ ap (λ k. suc n + k) (sym count)
             | inl e ↦
-                let h' : first_of (children_of rows o ++ length rows ∷ []) ≡ Some m = sym (first_join_parent rows o os row attributes stack joins) ∙ ap (first_child (rows ++ row ∷ attributes)) e ∙ h in
+                let h' : first_of (children_of rows o ++ length rows ∷ []) ≡ Some m =
+                sym (first_join_parent rows o os row attributes stack joins) ∙ ap (first_child (rows ++ row ∷ attributes)) e ∙ h in
                 elim (first_or_none (children_of rows o)) [
                   | inl z ↦
                       let here : length rows ≡ m = some_is (length rows) m (sym (ap (λ xs. first_of (xs ++ length rows ∷ [])) z) ∙ h') in
@@ -209,13 +211,15 @@ module _ (rows : List Row) (o : ℕ) (os : List ℕ) (row : Row) (attributes : L
           ]
     ]
 
-    join_childless : (n : ℕ) → n < length (rows ++ row ∷ attributes) → is_attribute (row_at (rows ++ row ∷ attributes) n).kind ≡ false → first_child (rows ++ row ∷ attributes) n ≡ None → extent_of (rows ++ row ∷ attributes) n ≡ suc n + attr_count_of (rows ++ row ∷ attributes) n
+    join_childless : (n : ℕ) → n < length (rows ++ row ∷ attributes) → is_attribute (row_at (rows ++ row ∷ attributes) n).kind ≡ false
+        → first_child (rows ++ row ∷ attributes) n ≡ None → extent_of (rows ++ row ∷ attributes) n ≡ suc n + attr_count_of (rows ++ row ∷ attributes) n
     join_childless n l plain h = elim (cases_lt n (length rows)) [
       | inr ge ↦
           let e : n ≡ length rows = new_plain n ge l plain in
           rw e (extent_new ∙ ap (λ k. suc (length rows) + k) (sym (count_new rows o os row attributes stack joins)))
       | inl lt ↦ elim (cases_eq o n) [
-        | inl e ↦ absurd (not_childless (rows ++ row ∷ attributes) n (length rows) (omega (arith, all_long)) (child_decider (rows ++ row ∷ attributes) n (length rows) (is_child_new rows o os row attributes stack joins n ∙ eq-eqb o n e)) h)
+        | inl e ↦ absurd (not_childless (rows ++ row ∷ attributes) n (length rows) (omega (arith, all_long))
+            (child_decider (rows ++ row ∷ attributes) n (length rows) (is_child_new rows o os row attributes stack joins n ∙ eq-eqb o n e)) h)
         | inr ne ↦
             let was : first_child rows n ≡ None = sym (first_join_other rows o os row attributes stack joins n ne) ∙ h in
             let closed : is_member n (o ∷ os) ≡ false = elim (cases_Bool (is_member n (o ∷ os))) [
@@ -273,12 +277,14 @@ module _ (rows : List Row) (o : ℕ) (os : List ℕ) (row : Row) (attributes : L
           ])
         ]
 
-    join_last : (n q : ℕ) → n < length (rows ++ row ∷ attributes) → is_attribute (row_at (rows ++ row ∷ attributes) n).kind ≡ false → parent_of (rows ++ row ∷ attributes) n ≡ Some q → next_sibling (rows ++ row ∷ attributes) n ≡ None → extent_of (rows ++ row ∷ attributes) q ≡ extent_of (rows ++ row ∷ attributes) n
+    join_last : (n q : ℕ) → n < length (rows ++ row ∷ attributes) → is_attribute (row_at (rows ++ row ∷ attributes) n).kind ≡ false
+        → parent_of (rows ++ row ∷ attributes) n ≡ Some q → next_sibling (rows ++ row ∷ attributes) n ≡ None → extent_of (rows ++ row ∷ attributes) q ≡ extent_of (rows ++ row ∷ attributes) n
     join_last n q l plain up h = elim (cases_lt n (length rows)) [
       | inr ge ↦
           let e : n ≡ length rows = new_plain n ge l plain in
           let q_is : o ≡ q = some_is o q (sym (new_parent rows o os row attributes stack joins) ∙ sym (ap (parent_of (rows ++ row ∷ attributes)) e) ∙ up) in
-          let a : extent_of (rows ++ row ∷ attributes) q ≡ length (rows ++ row ∷ attributes) = sym (ap (extent_of (rows ++ row ∷ attributes)) q_is) ∙ (open_is (rows ++ row ∷ attributes) (o ∷ os) o stack_then (member_head o os)).0 in
+          let a : extent_of (rows ++ row ∷ attributes) q ≡ length (rows ++ row ∷ attributes) =
+          sym (ap (extent_of (rows ++ row ∷ attributes)) q_is) ∙ (open_is (rows ++ row ∷ attributes) (o ∷ os) o stack_then (member_head o os)).0 in
           let b : extent_of (rows ++ row ∷ attributes) n ≡ suc (length rows) + length attributes = ap (extent_of (rows ++ row ∷ attributes)) e ∙ extent_new in
           omega (arith, a, b, all_long)
       | inl lt ↦
@@ -318,7 +324,8 @@ module _ (rows : List Row) (o : ℕ) (os : List ℕ) (row : Row) (attributes : L
         | inl e ↦ none_some (parent_of (rows ++ row ∷ attributes) n) o h (ap (parent_of (rows ++ row ∷ attributes)) e ∙ new_parent rows o os row attributes stack joins)
         | inr ne ↦
             let s : n ≡ length rows + suc (n - suc (length rows)) = omega arith in
-            none_some (parent_of (rows ++ row ∷ attributes) n) (length rows) h (ap (parent_of (rows ++ row ∷ attributes)) s ∙ attribute_parent rows o os row attributes stack joins (n - suc (length rows)) (omega (arith, all_long)))
+            none_some (parent_of (rows ++ row ∷ attributes) n) (length rows) h
+            (ap (parent_of (rows ++ row ∷ attributes)) s ∙ attribute_parent rows o os row attributes stack joins (n - suc (length rows)) (omega (arith, all_long)))
       ])
     ]
 

@@ -1,5 +1,6 @@
 -- How far a walk has come: the rows up to those of what it stands at.
-use Rattle.std.proofs.Common.{◌≡◌, ℕ, suc, ◌+◌, ◌-◌, ◌<◌, ◌≤◌, Bool, true, false, not, ◌&&◌, nat_le, List, [], ◌∷◌, ◌++◌, length, Option, Some, None, unwrap_or, take, refl, ap, sym, ◌∙◌, subst, arith, inl, inr}
+use Rattle.std.proofs.Common.{◌≡◌, ℕ, suc, ◌+◌, ◌-◌, ◌<◌, ◌≤◌, Bool, true, false, not, ◌&&◌, nat_le, List, [], ◌∷◌, ◌++◌, length, Option, Some, None}
+use Rattle.std.proofs.Common.{unwrap_or, take, refl, ap, sym, ◌∙◌, subst, arith, inl, inr}
 use Rattle.std.proofs.lemmas.Bool.{cases_Bool, and_parts, not-true, false≢true, eqb-true, leb-false}
 use Rattle.std.proofs.lemmas.List.{take_all, take-append-le}
 use Rattle.doc_model.specs.declared.row.Row.{Row}
@@ -49,7 +50,8 @@ given_of p n down depth bytes made s = record { shallow = s.shallow; text = s.te
 given_at : (p : List Step) (j k : ℕ) (bytes : List ℕ) (made : ℕ) → j ≡ k → HasPast p j bytes made → HasPast p k bytes made
 given_at p j k bytes made e h = subst (λ i. HasPast p i bytes made) e h
 
-under_way : (p : List Step) (n : ℕ) (down : Bool) (depth : ℕ) (bytes : List ℕ) (made : ℕ) → IsJoined p n → is_attribute (row_at (rows_of p) n).kind ≡ false → (down ≡ false → is_open p n ≡ false) → depth ≡ (row_at (rows_of p) n).depth → HasPast p (past_at (rows_of p) n down) bytes made → IsUnderWay (at n down depth made) p bytes
+under_way : (p : List Step) (n : ℕ) (down : Bool) (depth : ℕ) (bytes : List ℕ) (made : ℕ) → IsJoined p n → is_attribute (row_at (rows_of p) n).kind ≡ false
+    → (down ≡ false → is_open p n ≡ false) → depth ≡ (row_at (rows_of p) n).depth → HasPast p (past_at (rows_of p) n down) bytes made → IsUnderWay (at n down depth made) p bytes
 under_way p n down depth bytes made j k s d h = record { joined = j; plain = k; shut = s; depth = d; shallow = h.shallow; text = h.text; events = h.events }
 
 take_later : (p q : List Step) (k : ℕ) → Grows p q → k ≤ length (rows_of p) → take k (rows_of q) ≡ take k (rows_of p)
@@ -77,7 +79,8 @@ depth_later : (p q : List Step) (n depth : ℕ) → Grows p q → IsLawful q →
 depth_later p q n depth g l j h = h ∙ sym (ap (λ (r : Row). r.depth) (data_stay [] p q n g l j).row)
 
 -- what was given of steps was given of the beginning of all that they grow to
-pub way_later : (p q : List Step) (n : ℕ) (down : Bool) (depth : ℕ) (bytes : List ℕ) (made : ℕ) → Grows p q → IsLawful q → IsUnderWay (at n down depth made) p bytes → IsUnderWay (at n down depth made) q bytes
+pub way_later : (p q : List Step) (n : ℕ) (down : Bool) (depth : ℕ) (bytes : List ℕ) (made : ℕ) → Grows p q → IsLawful q → IsUnderWay (at n down depth made) p bytes
+    → IsUnderWay (at n down depth made) q bytes
 way_later p q n down depth bytes made g l s = under_way q n down depth bytes made
     (joined_grows p q n g s.joined)
     (kind_later p q n g l s.joined s.plain)
@@ -109,7 +112,8 @@ entered p found depth bytes made a h = under_way p found true depth _ _ a.joined
 })
 
 -- a next row of depth 500 is the first that is too deep
-pub faulted : (p : List Step) (walker : Walking) (found depth : ℕ) (bytes : List ℕ) → IsUnderWay walker p bytes → IsAhead p found depth bytes walker.made → nat_le 500 depth ≡ true → HasFault walker bytes TooDeep p
+pub faulted : (p : List Step) (walker : Walking) (found depth : ℕ) (bytes : List ℕ) → IsUnderWay walker p bytes → IsAhead p found depth bytes walker.made → nat_le 500 depth ≡ true
+    → HasFault walker bytes TooDeep p
 faulted p walker found depth bytes s a h =
     let f = fault_here (rows_of p) found a.joined a.given.shallow (deep_plain (row_at (rows_of p) found) a.plain ∙ sym (ap (nat_le 500) a.depth) ∙ h) in
     record { fault = f.0; stands = record { text = a.given.text ∙ ap text_of (sym f.1); made = a.given.events ∙ ap events_in (sym f.1); under_way = s } }
@@ -120,7 +124,8 @@ parent_depth rows n q l e = sym (eqb-true _ _ (and_parts _ _ (parent_is rows n q
 
 -- a walker stands below the depth that is too deep
 pub not_deep : (p : List Step) (n : ℕ) (down : Bool) (depth : ℕ) (bytes : List ℕ) (made : ℕ) → IsUnderWay (at n down depth made) p bytes → depth < 500
-not_deep p n down depth bytes made s = let d = s.depth in leb-false 500 depth (ap (nat_le 500) d ∙ sym (deep_plain (row_at (rows_of p) n) s.plain) ∙ shallow_at (rows_of p) (past_at (rows_of p) n down) n s.shallow (here down) s.joined)
+not_deep p n down depth bytes made s = let d =
+    s.depth in leb-false 500 depth (ap (nat_le 500) d ∙ sym (deep_plain (row_at (rows_of p) n) s.plain) ∙ shallow_at (rows_of p) (past_at (rows_of p) n down) n s.shallow (here down) s.joined)
   where
     here : (down : Bool) → n < past_at (rows_of p) n down
     here true = omega arith
@@ -172,7 +177,8 @@ settled p n depth bytes made l s h c =
     (under_way p n false depth bytes made s.joined s.plain (λ e. c) s.depth (given_at p _ _ bytes made (sym place) (given_of p n true depth bytes made s)), place)
 
 -- past the last child its parent is past
-pub risen : (p : List Step) (n up depth : ℕ) (bytes : List ℕ) (made : ℕ) → IsLawful p → IsUnderWay (at n false depth made) p bytes → next_sibling (rows_of p) n ≡ None → parent_of (rows_of p) n ≡ Some up → is_settled p (sibling_parent (rows_of p) n) ≡ true
+pub risen : (p : List Step) (n up depth : ℕ) (bytes : List ℕ) (made : ℕ) → IsLawful p → IsUnderWay (at n false depth made) p bytes → next_sibling (rows_of p) n ≡ None
+    → parent_of (rows_of p) n ≡ Some up → is_settled p (sibling_parent (rows_of p) n) ≡ true
     → IsUnderWay (at up false (depth - 1) made) p bytes × (past_at (rows_of p) up false ≡ past_at (rows_of p) n false) × (up < n)
 risen p n up depth bytes made l s h e t =
     let place = (ordered_rows p l.each).last n up s.joined s.plain e h in
@@ -180,13 +186,15 @@ risen p n up depth bytes made l s h e t =
     let shut : is_open p up ≡ false = not-true (is_open p up) (sym (ap (is_settled p) (plain_decider (rows_of p) n s.plain ∙ e)) ∙ t) in
     let above = (parent_is (rows_of p) n up s.joined e).above in
     let deep = parent_depth (rows_of p) n up s.joined e in (
-      under_way p up false (depth - 1) bytes made b.1 (parent_plain (row_at (rows_of p) up) (and_parts _ _ above).0) (λ e. shut) (omega (arith, deep, s.depth)) (given_at p _ _ bytes made (sym place) (given_of p n false depth bytes made s)),
+      under_way p up false (depth - 1) bytes made b.1 (parent_plain (row_at (rows_of p) up) (and_parts _ _ above).0) (λ e. shut) (omega (arith, deep, s.depth))
+          (given_at p _ _ bytes made (sym place) (given_of p n false depth bytes made s)),
       place,
       b.0,
     )
 
 -- where all rows are past, the walker has given what the rules make of the steps
-whole_stands : (p : List Step) (walker : Walking) (bytes : List ℕ) → IsUnderWay walker p bytes → HasPast p (length (rows_of p)) bytes walker.made → (fault_of (rows_of p) ≡ None) × Stands walker p bytes
+whole_stands : (p : List Step) (walker : Walking) (bytes : List ℕ) → IsUnderWay walker p bytes → HasPast p (length (rows_of p)) bytes walker.made
+    → (fault_of (rows_of p) ≡ None) × Stands walker p bytes
 whole_stands p walker bytes s h =
     let all = take_all (length (rows_of p)) (rows_of p) (omega arith) in
     let sound : fault_of (rows_of p) ≡ None = sym (ap fault_of all) ∙ h.shallow in
@@ -194,7 +202,8 @@ whole_stands p walker bytes s h =
     (sound, record { text = h.text ∙ ap text_of same; made = h.events ∙ ap events_in same; under_way = s })
 
 -- only the root has no parent: where it is past, all is
-pub ended : (p : List Step) (n depth : ℕ) (bytes : List ℕ) (made : ℕ) → IsLawful p → IsUnderWay (at n false depth made) p bytes → parent_of (rows_of p) n ≡ None → IsDone (at n false depth made) bytes p
+pub ended : (p : List Step) (n depth : ℕ) (bytes : List ℕ) (made : ℕ) → IsLawful p → IsUnderWay (at n false depth made) p bytes → parent_of (rows_of p) n ≡ None
+    → IsDone (at n false depth made) bytes p
 ended p n depth bytes made l s h =
     let z : n ≡ 0 = (ordered_rows p l.each).rooted n s.joined h in
     let w = whole_stands p (at n false depth made) bytes s (given_at p _ _ bytes made (ap (extent_of (rows_of p)) z ∙ root_extent p l.each) (given_of p n false depth bytes made s)) in
@@ -207,9 +216,11 @@ root_open p n l h = elim (cases_Bool (is_open p 0)) [
 ]
 
 -- a row that waits for a child, or for a sibling, is where the rows end
-pub halted_first : (p : List Step) (n depth : ℕ) (bytes : List ℕ) (made : ℕ) → IsLawful p → IsUnderWay (at n true depth made) p bytes → first_child (rows_of p) n ≡ None → is_open p n ≡ true → WaitsFor (at n true depth made) bytes n p
+pub halted_first : (p : List Step) (n depth : ℕ) (bytes : List ℕ) (made : ℕ) → IsLawful p → IsUnderWay (at n true depth made) p bytes → first_child (rows_of p) n ≡ None
+    → is_open p n ≡ true → WaitsFor (at n true depth made) bytes n p
 halted_first p n depth bytes made l s h o =
-    let w = whole_stands p (at n true depth made) bytes s (given_at p _ _ bytes made (sym ((ordered_rows p l.each).childless n s.joined s.plain h) ∙ open_contains p n l.each o) (given_of p n true depth bytes made s)) in
+    let w = whole_stands p (at n true depth made) bytes s
+    (given_at p _ _ bytes made (sym ((ordered_rows p l.each).childless n s.joined s.plain h) ∙ open_contains p n l.each o) (given_of p n true depth bytes made s)) in
     record { waits = o; going = root_open p n l o; sound = w.0; stands = w.1 }
 
 not_false : (b : Bool) → not b ≡ false → b ≡ true
@@ -220,10 +231,12 @@ waits_under : (p : List Step) (o : Option ℕ) → is_settled p o ≡ false → 
 waits_under p None h = absurd (false≢true (sym h))
 waits_under p (Some q) h = (q, refl, not_false (is_open p q) h)
 
-pub halted_next : (p : List Step) (n depth : ℕ) (bytes : List ℕ) (made : ℕ) → IsLawful p → IsUnderWay (at n false depth made) p bytes → next_sibling (rows_of p) n ≡ None → is_settled p (sibling_parent (rows_of p) n) ≡ false → WaitsFor (at n false depth made) bytes (decider_of (rows_of p) n false) p
+pub halted_next : (p : List Step) (n depth : ℕ) (bytes : List ℕ) (made : ℕ) → IsLawful p → IsUnderWay (at n false depth made) p bytes → next_sibling (rows_of p) n ≡ None
+    → is_settled p (sibling_parent (rows_of p) n) ≡ false → WaitsFor (at n false depth made) bytes (decider_of (rows_of p) n false) p
 halted_next p n depth bytes made l s h t =
     let u = waits_under p (sibling_parent (rows_of p) n) t in
     let d = decided (rows_of p) n u.0 u.1 in
-    let w = whole_stands p (at n false depth made) bytes s (given_at p _ _ bytes made (sym ((ordered_rows p l.each).last n u.0 s.joined s.plain d.1 h) ∙ open_contains p u.0 l.each u.2) (given_of p n false depth bytes made s)) in
+    let w = whole_stands p (at n false depth made) bytes s
+    (given_at p _ _ bytes made (sym ((ordered_rows p l.each).last n u.0 s.joined s.plain d.1 h) ∙ open_contains p u.0 l.each u.2) (given_of p n false depth bytes made s)) in
     let here : u.0 ≡ unwrap_or (parent_of (rows_of p) n) n = sym (ap (λ o. unwrap_or o n) d.1) in
     record { waits = sym (ap (is_open p) here) ∙ u.2; going = root_open p u.0 l u.2; sound = w.0; stands = w.1 }

@@ -70,7 +70,8 @@ found_by limits told left lines old new fed.Failed over ended flawed failed = (l
 found_by limits told left lines old new fed.Memory over ended flawed failed = tt
 
 -- the next feed found it
-pub found_next : (limits : Limits) (told left : Option (List ℕ)) (count : ℕ) (steps : List Step) (answer : Fed) → Finds limits told left count steps answer → FindsWithin limits told left count 1 steps answer
+pub found_next : (limits : Limits) (told left : Option (List ℕ)) (count : ℕ) (steps : List Step) (answer : Fed) → Finds limits told left count steps answer
+    → FindsWithin limits told left count 1 steps answer
 found_next limits told left count steps fed.Line found = absurd found
 found_next limits told left count steps fed.Ended found = let at : count ≡ count + 0 = omega arith in (0, omega arith, subst (λ k. Finds limits told left k steps fed.Ended) at found)
 found_next limits told left count steps (fed.Flawed flaw) found = let at : count ≡ count + 0 = omega arith in (0, omega arith, subst (λ k. Finds limits told left k steps (fed.Flawed flaw)) at found)
@@ -110,7 +111,8 @@ bound_of (suc first) before bound = inl (bound (omega arith))
 pub leaves_join : (old mid new : Session) (left left' left'' : Option (List ℕ)) (faults faults' faults'' first more most : ℕ) (answer : Fed) → first + more ≡ most →
     Leaves old mid left left' faults faults' first fed.Line → Leaves mid new left' left'' faults' faults'' more answer → Leaves old new left left'' faults faults'' most answer
 leaves_join old mid new left left' left'' faults faults' faults'' first more most answer same a b = record {
-  going = λ line limits told count at. IsAt-at new limits told left'' (count + first + more) (count + most) (omega (arith, same)) (b.going line limits told (count + first) (a.going refl limits told count at));
+  going = λ line limits told count at. IsAt-at new limits told left'' (count + first + more) (count + most) (omega (arith, same))
+      (b.going line limits told (count + first) (a.going refl limits told count at));
   found = λ over limits told count at. further limits told left'' count first more most _ answer (omega (arith, same)) (b.found over limits told (count + first) (a.going refl limits told count at));
   asked = λ limits told count at. b.asked limits told (count + first) (a.going refl limits told count at);
   kept = b.kept;
@@ -125,7 +127,8 @@ leaves_join old mid new left left' left'' faults faults' faults'' first more mos
 }
 
 -- nothing was read, and the source goes on
-pub leaves_nothing : Asking → (old new : Session) (left : Option (List ℕ)) (faults most : ℕ) → most ≡ 0 → answer_of old ≡ None → answer_of new ≡ answer_of old → lines_given new ≡ lines_given old → Holds new
+pub leaves_nothing : Asking → (old new : Session) (left : Option (List ℕ)) (faults most : ℕ) → most ≡ 0 → answer_of old ≡ None → answer_of new ≡ answer_of old
+    → lines_given new ≡ lines_given old → Holds new
     → length (counts_of new) ≡ length (counts_of old) → ((limits : Limits) (told : Option (List ℕ)) (count : ℕ) → IsAt old limits told left count → IsAt new limits told left count)
     → Leaves old new left left faults faults most fed.Line
 leaves_nothing law old new left faults most none going answer given holds readers same = record {
@@ -144,7 +147,8 @@ leaves_nothing law old new left faults most none going answer given holds reader
     line_is_no_failure is = cc
 
 -- nothing was read, for want of memory
-pub leaves_starved : Asking → (old new : Session) (left : Option (List ℕ)) (faults most : ℕ) → Holds new → length (counts_of new) ≡ length (counts_of old) → Leaves old new left left faults faults most fed.Memory
+pub leaves_starved : Asking → (old new : Session) (left : Option (List ℕ)) (faults most : ℕ) → Holds new → length (counts_of new) ≡ length (counts_of old)
+    → Leaves old new left left faults faults most fed.Memory
 leaves_starved law old new left faults most holds readers = record {
   going = λ is. absurd (memory_goes_not_on is);
   found = λ _ limits told count at. tt;
@@ -161,13 +165,15 @@ leaves_starved law old new left faults most holds readers = record {
     memory_is_no_failure is = cc
 
 -- what was found within some lines was found within more
-pub leaves_within : (old new : Session) (left left' : Option (List ℕ)) (faults faults' most whole : ℕ) (answer : Fed) → answer ≢ fed.Line → most ≤ whole → Leaves old new left left' faults faults' most answer
+pub leaves_within : (old new : Session) (left left' : Option (List ℕ)) (faults faults' most whole : ℕ) (answer : Fed) → answer ≢ fed.Line → most ≤ whole
+    → Leaves old new left left' faults faults' most answer
     → Leaves old new left left' faults faults' whole answer
 leaves_within old new left left' faults faults' most whole answer over room it = record {
   going = λ line. absurd (over line);
   found = λ _ limits told count at.
       let here : count ≡ count + 0 = omega arith in
-      further limits told left' count 0 most whole _ answer (omega (arith, room)) (subst (λ k. FindsWithin limits told left' k most (steps_of_session new) answer) here (it.found over limits told count at));
+      further limits told left' count 0 most whole _ answer (omega (arith, room))
+      (subst (λ k. FindsWithin limits told left' k most (steps_of_session new) answer) here (it.found over limits told count at));
   asked = it.asked;
   kept = it.kept;
   given = λ line. absurd (over line);
@@ -178,7 +184,8 @@ leaves_within old new left left' faults faults' most whole answer over room it =
 }
 
 -- by another name of the answer
-pub leaves_as : (old new : Session) (left left' : Option (List ℕ)) (faults faults' most most' : ℕ) (answer answer' : Fed) → most ≡ most' → answer ≡ answer' → Leaves old new left left' faults faults' most answer
+pub leaves_as : (old new : Session) (left left' : Option (List ℕ)) (faults faults' most most' : ℕ) (answer answer' : Fed) → most ≡ most' → answer ≡ answer'
+    → Leaves old new left left' faults faults' most answer
     → Leaves old new left left' faults faults' most' answer'
 leaves_as old new left left' faults faults' most most' answer answer' same is it =
     subst (λ (n : ℕ). Leaves old new left left' faults faults' n answer') same (subst (λ (a : Fed). Leaves old new left left' faults faults' most a) is it)

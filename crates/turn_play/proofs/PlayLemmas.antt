@@ -1,5 +1,6 @@
 -- The text of the turns that were played.
-use Rattle.std.proofs.Common.{◌≡◌, ◌≢◌, ℕ, ◌+◌, ◌<◌, ◌≤◌, List, [], ◌∷◌, ◌++◌, Option, Some, Bool, true, false, cond, All, refl, ap, sym, ◌∙◌, arith, append_assoc, append-nil, subst, take, drop, get_or, length}
+use Rattle.std.proofs.Common.{◌≡◌, ◌≢◌, ℕ, ◌+◌, ◌<◌, ◌≤◌, List, [], ◌∷◌, ◌++◌, Option, Some, Bool, true, false, cond, All, refl, ap, sym, ◌∙◌, arith}
+use Rattle.std.proofs.Common.{append_assoc, append-nil, subst, take, drop, get_or, length}
 use Rattle.std.proofs.lemmas.List.{take_more, take-append-drop}
 use Rattle.std.specs.List.{list_any}
 use Rattle.std.proofs.lemmas.Grind.{flat_map-append}
@@ -90,7 +91,8 @@ pub text-one : (said said' said'' : List ℕ) (made : ℕ → ℕ) (reader count
     said'' ≡ said' ++ progress_line (record { reader = reader; made = count }) → said'' ≡ said ++ progress_text (last_runs (reader + 1) made)
 text-one said said' said'' made reader count first same then =
     let run : ℕ → Run = λ i. record { reader = i; made = made i } in
-    let one : said'' ≡ said' ++ progress_text (run reader ∷ []) = then ∙ ap (λ m. said' ++ progress_line (record { reader = reader; made = m })) same ∙ ap (λ l. said' ++ l) (sym (append-nil (progress_line (run reader)))) in
+    let one : said'' ≡ said' ++ progress_text (run reader ∷ []) =
+    then ∙ ap (λ m. said' ++ progress_line (record { reader = reader; made = m })) same ∙ ap (λ l. said' ++ l) (sym (append-nil (progress_line (run reader)))) in
     text-more said said' said'' (last_runs reader made) (run reader ∷ []) first one
     ∙ ap (λ l. said ++ progress_text l) (sym (map-range_with_len_more run 0 reader reader (omega arith)))
 

@@ -25,7 +25,8 @@ extent_within cells u end m e = subst (λ steps. end ≤ length (rows_of steps))
 pub child_joined : (cells : Cells) (u : Seen ⊤) (n k : ℕ) → Moves (seen_of cells) u → first_shown u.rules (rows_of u.steps) n ≡ Some k → IsJoined cells.steps k
 child_joined cells u n k m h = subst (λ steps. IsJoined steps k) (steps_stay cells u m) ((first_is u.rules (rows_of u.steps) n k h).within)
 
-pub stream_stands : (cells : Cells) (u : Seen ⊤) (old new : ChildStream) (look : Look) → Moves (seen_of cells) u → IsStream (seen_of cells) old → StreamIs (seen_of cells) u old new look → IsStream (seen_of cells) new
+pub stream_stands : (cells : Cells) (u : Seen ⊤) (old new : ChildStream) (look : Look) → Moves (seen_of cells) u → IsStream (seen_of cells) old
+    → StreamIs (seen_of cells) u old new look → IsStream (seen_of cells) new
 stream_stands cells u old new (Node k) m s h = (
   subst (λ steps. IsJoined steps new.n) (steps_stay cells u m) (h.3.0),
   subst (λ rules. StandsTo rules (rows_of cells.steps) new.n new.last) m.rules_stay (subst (λ steps. StandsTo u.rules (rows_of steps) new.n new.last) (steps_stay cells u m) (h.3.1)),

@@ -15,7 +15,8 @@ use Rattle.std.specs.Map.{lookup, KeepsOthers, IsKeyTest, AreApart}
 use Rattle.xml_names.specs.Kept.{Latest, found, place_of, AreLinked, IsIndexed}
 use Rattle.xml_names.specs.declared.index.Declaration.{Declaration}
 
-other_entries : {K X : Type 0} (eq : K → K → Bool) (test : K → Bool) (old new : List (K × X)) → KeepsOthers eq test old new → (other : K → Bool) → IsKeyTest eq other → AreApart test other → lookup other new ≡ lookup other old
+other_entries : {K X : Type 0} (eq : K → K → Bool) (test : K → Bool) (old new : List (K × X)) → KeepsOthers eq test old new → (other : K → Bool) → IsKeyTest eq other
+    → AreApart test other → lookup other new ≡ lookup other old
 unfolding KeepsOthers
 other_entries eq test old new h = h
 
@@ -31,7 +32,8 @@ pub found_after : (bs : List ℕ) (old new : Latest) (w : Option ℕ) → Update
 found_after bs old new w h cs =
     ⊎_elim
     (λ y. subst (λ l. found l new ≡ w) ((bytes_decides bs cs).0 y) h.1 ∙ sym (cond-true (bytes_eq bs cs) w (found cs old) y))
-    (λ n. other_entries _ _ _ _ h.3 _ (λ x y. (eq_by_cmp_equiv nat_list_cmp_total).congr cs x.items y.items) (λ key. apart_in_order bs cs key.items n) ∙ sym (cond-false (bytes_eq bs cs) w (found cs old) n))
+    (λ n. other_entries _ _ _ _ h.3 _ (λ x y. (eq_by_cmp_equiv nat_list_cmp_total).congr cs x.items y.items) (λ key. apart_in_order bs cs key.items n)
+    ∙ sym (cond-false (bytes_eq bs cs) w (found cs old) n))
     (cases_Bool (bytes_eq bs cs))
 
 -- one more binding, of a prefix whose latest it hides

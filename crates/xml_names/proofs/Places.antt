@@ -50,7 +50,8 @@ seen_unbound prefix starts declarations is = seen prefix starts declarations ∙
 pub seen_uri : (prefix : List ℕ) (starts : List ℕ) (declarations : List Declaration) (k : ℕ) (d : Declaration) → place_of prefix (reverse declarations) ≡ Some k
     → uri_in prefix (all_bindings (scopes_of starts (bindings_of declarations))) ≡ Some (get_or declarations k d).binding.uri
 seen_uri prefix starts declarations k d is =
-    seen prefix starts declarations ∙ subst (λ all. uri_in prefix (bindings_of (reverse declarations)) ≡ Some (get_or all k d).binding.uri) (reverse-reverse declarations) (uri_placed prefix (reverse declarations) k d is)
+    seen prefix starts declarations
+    ∙ subst (λ all. uri_in prefix (bindings_of (reverse declarations)) ≡ Some (get_or all k d).binding.uri) (reverse-reverse declarations) (uri_placed prefix (reverse declarations) k d is)
 
 -- a binding in the front counts
 pub uri_in_front : (prefix : List ℕ) (front back : List Binding) (uri : List ℕ) → uri_in prefix front ≡ Some uri → uri_in prefix (front ++ back) ≡ Some uri

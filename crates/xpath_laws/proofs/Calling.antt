@@ -10,7 +10,9 @@ use Rattle.xpath_binding.specs.declared.functions.Function.TheVariants as functi
 use Rattle.xpath_syntax.specs.declared.expression.NameRef.{NameRef}
 use Rattle.xpath_values.specs.declared.value.Value.{Value}
 use Rattle.xpath_meaning.specs.declared.context.Context.{Context}
-use Rattle.xpath_meaning.specs.Calls.{Call, taking_none, taking_one, taking_one_or_none, taking_two, taking_three, taking_two_or_three, of_text, of_two_texts, of_number, of_truth, of_first, of_node, part_of_name, substring_of, substring_within, translation, concatenation, own_number, speaking, called, called_if, function_of, call}
+use Rattle.xpath_meaning.specs.Calls.{Call, taking_none, taking_one, taking_one_or_none, taking_two, taking_three, taking_two_or_three, of_text}
+use Rattle.xpath_meaning.specs.Calls.{of_two_texts, of_number, of_truth, of_first, of_node, part_of_name, substring_of, substring_within}
+use Rattle.xpath_meaning.specs.Calls.{translation, concatenation, own_number, speaking, called, called_if, function_of, call}
 use Rattle.xpath_meaning.specs.Conversions.{first_of}
 use Rattle.xpath_meaning.specs.Meanings.{Meaning, Meant, text_at}
 use Rattle.xpath_meaning.specs.Outcome.{Outcome, calculated, each_of}
@@ -66,7 +68,8 @@ two_or_three_keeps f g h i (m ∷ k ∷ l ∷ []) a R Q x values c = i m k l a.0
 two_or_three_keeps f g h i (m ∷ k ∷ l ∷ n ∷ ms) a R Q x values c = refl
 
 text_call : (f : List ℕ → Outcome Value) → CallKeeps (of_text f)
-text_call f = one_or_none_keeps _ _ (λ R Q x values c. bind_stays _ _ _ _ (x.value c.node) (λ bytes. stays (f bytes))) (λ m k R Q x values c. bind_stays _ _ _ _ (text_keeps m k R Q x values c) (λ bytes. stays (f bytes)))
+text_call f = one_or_none_keeps _ _ (λ R Q x values c. bind_stays _ _ _ _ (x.value c.node) (λ bytes. stays (f bytes)))
+    (λ m k R Q x values c. bind_stays _ _ _ _ (text_keeps m k R Q x values c) (λ bytes. stays (f bytes)))
 
 two_texts_call : (f : List ℕ → List ℕ → Value) → CallKeeps (of_two_texts f)
 two_texts_call f = two_keeps _ (λ m k p q R Q x values c. bind_stays _ _ _ _ (text_keeps m p R Q x values c) (λ a. bind_stays _ _ _ _ (text_keeps k q R Q x values c) (λ b. refl)))
@@ -82,7 +85,8 @@ first_stays f g h None = refl
 first_stays f g h (Some n) = h n
 
 node_call : (f : Reading → ℕ → Outcome Value) → ((R Q : Reading) → Extends R Q → (n : ℕ) → Stays (f R n) (f Q n)) → CallKeeps (of_node f)
-node_call f h = one_or_none_keeps _ _ (λ R Q x values c. h R Q x c.node) (λ m k R Q x values c. bind_stays _ _ _ _ (nodes_keep m k R Q x values c) (λ nodes. first_stays (f R) (f Q) (h R Q x) (first_of nodes)))
+node_call f h = one_or_none_keeps _ _ (λ R Q x values c. h R Q x c.node)
+    (λ m k R Q x values c. bind_stays _ _ _ _ (nodes_keep m k R Q x values c) (λ nodes. first_stays (f R) (f Q) (h R Q x) (first_of nodes)))
 
 part_stays : (part : Row → List ℕ) (R Q : Reading) → Extends R Q → (n : ℕ) → Stays (part_of_name part R n) (part_of_name part Q n)
 part_stays part R Q x n = bind_stays _ _ _ _ (x.row n) (λ row. refl)
@@ -98,7 +102,8 @@ translation_keeps : Keeps3 translation
 translation_keeps m k l p q r R Q x values c =
     bind_stays _ _ _ _ (text_keeps m p R Q x values c) (λ bytes. bind_stays _ _ _ _ (text_keeps k q R Q x values c) (λ a. bind_stays _ _ _ _ (text_keeps l r R Q x values c) (λ b. refl)))
 
-texts_stay : (args : List Meant) → AllKeep args → (R Q : Reading) → Extends R Q → (values : List Value) (c : Context) → Stays (each_of (λ m. text_at m R values c) args) (each_of (λ m. text_at m Q values c) args)
+texts_stay : (args : List Meant) → AllKeep args → (R Q : Reading) → Extends R Q → (values : List Value) (c : Context)
+    → Stays (each_of (λ m. text_at m R values c) args) (each_of (λ m. text_at m Q values c) args)
 texts_stay [] a R Q x values c = refl
 texts_stay (m ∷ ms) a R Q x values c = bind_stays _ _ _ _ (text_keeps m a.0 R Q x values c) (λ y. bind_stays _ _ _ _ (texts_stay ms a.1 R Q x values c) (λ ys. refl))
 
@@ -118,7 +123,8 @@ called_keeps function.True name = none_keeps _ (λ R Q x values c. refl)
 called_keeps function.False name = none_keeps _ (λ R Q x values c. refl)
 called_keeps function.Current name = none_keeps _ (λ R Q x values c. refl)
 called_keeps function.Count name = one_keeps _ (λ m k R Q x values c. bind_stays _ _ _ _ (nodes_keep m k R Q x values c) (λ nodes. refl))
-called_keeps function.Sum name = one_keeps _ (λ m k R Q x values c. bind_stays _ _ _ _ (nodes_keep m k R Q x values c) (λ nodes. bind_stays _ _ _ _ (sum_stays R Q x (Whole (pos 0)) nodes) (λ n. refl)))
+called_keeps function.Sum name =
+    one_keeps _ (λ m k R Q x values c. bind_stays _ _ _ _ (nodes_keep m k R Q x values c) (λ nodes. bind_stays _ _ _ _ (sum_stays R Q x (Whole (pos 0)) nodes) (λ n. refl)))
 called_keeps function.Id name = one_keeps _ (λ m k R Q x values c. bind_stays _ _ _ _ (k.value R Q x values c) (ids_stay R Q x))
 called_keeps function.Key name = two_keeps _ (λ m k p q R Q x values c. bind_stays _ _ _ _ (q.value R Q x values c) (keys_stay R Q x name.slot))
 called_keeps function.LocalName name = node_call _ (part_stays _)

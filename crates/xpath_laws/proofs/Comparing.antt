@@ -13,7 +13,8 @@ use Rattle.xpath_meaning.specs.Reading.{Reading, Extends}
 use Rattle.xpath_laws.proofs.Staying.{bind_stays, stays, some_stays}
 
 pair_stays : (op : Op) (R Q : Reading) → Extends R Q → (pair : ℕ × ℕ) → Stays (compare_pair op R pair) (compare_pair op Q pair)
-pair_stays op R Q x pair = bind_stays (R.value pair.0) (Q.value pair.0) _ _ (x.value pair.0) (λ a. bind_stays (R.value pair.1) (Q.value pair.1) _ _ (x.value pair.1) (λ b. stays (compare_atoms op (Text a) (Text b))))
+pair_stays op R Q x pair = bind_stays (R.value pair.0) (Q.value pair.0) _ _ (x.value pair.0)
+    (λ a. bind_stays (R.value pair.1) (Q.value pair.1) _ _ (x.value pair.1) (λ b. stays (compare_atoms op (Text a) (Text b))))
 
 left_stays : (op : Op) (R Q : Reading) → Extends R Q → (nodes : List ℕ) (b : AnyAtom) → Stays (some_left op R nodes b) (some_left op Q nodes b)
 left_stays op R Q x nodes b = some_stays _ _ nodes (λ n. bind_stays (R.value n) (Q.value n) _ _ (x.value n) (λ a. stays (compare_atoms op (Text a) b)))

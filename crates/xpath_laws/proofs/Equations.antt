@@ -20,7 +20,8 @@ use Rattle.xpath_syntax.specs.declared.expression.StepExpr.{StepExpr, out-StepEx
 
 by_layer : (x : Expr) (y : Expr-F Expr Path StepExpr) → out-Expr x ≡ y → meant x ≡ expr_means (map-Expr Expr Path StepExpr Meant MeantPath MeantStep meant meant_path meant_step y)
 unfolding meant meant_path meant_step
-by_layer x y is = fold_out-Expr Meant MeantPath MeantStep expr_means path_means step_means x ∙ ap (λ z. expr_means (map-Expr Expr Path StepExpr Meant MeantPath MeantStep meant meant_path meant_step z)) is
+by_layer x y is = fold_out-Expr Meant MeantPath MeantStep expr_means path_means step_means x
+    ∙ ap (λ z. expr_means (map-Expr Expr Path StepExpr Meant MeantPath MeantStep meant meant_path meant_step z)) is
 
 pub binary_means : (op : Op) (left right : Expr) → meant (expr.Binary op left right) ≡ plain (binary op (meant left) (meant right))
 binary_means op left right = by_layer _ _ (outs-Binary op left right)
@@ -46,7 +47,8 @@ location_means path = by_layer _ _ (outs-Path path)
 pub filter_means : (primary : Expr) (predicates : List Expr) → meant (expr.Filter primary predicates None) ≡ plain (filter_value (meant primary) (map meant predicates) None)
 filter_means primary predicates = by_layer _ _ (outs-Filter primary predicates None)
 
-pub tail_means : (primary : Expr) (predicates : List Expr) (tail : Path) → meant (expr.Filter primary predicates (Some tail)) ≡ plain (filter_value (meant primary) (map meant predicates) (Some (meant_path tail)))
+pub tail_means : (primary : Expr) (predicates : List Expr) (tail : Path)
+    → meant (expr.Filter primary predicates (Some tail)) ≡ plain (filter_value (meant primary) (map meant predicates) (Some (meant_path tail)))
 tail_means primary predicates tail = by_layer _ _ (outs-Filter primary predicates (Some tail))
 
 pub meant_path_is : (path : Path) → meant_path path ≡ record { absolute = (out-Path path).absolute; parts = map meant_step (out-Path path).parts; streams = (out-Path path).streams }

@@ -39,7 +39,8 @@ stream_goes_on (answer.Fault e) b f g s l = ap (λ w. stream_of w g) s
 stream_goes_on (answer.Open m) b f g s l = ((stream_of b g).items, refl)
 
 -- where a stream has an item, the later one has it, and the rest goes on too
-pub rest_goes_on : (n : ℕ) (ns : List ℕ) (t : Stream) (ending : Ending) → GoesOnFrom (n ∷ ns) ending t → (rest : List ℕ) × (t.items ≡ n ∷ rest) × GoesOnFrom ns ending (record { items = rest; ending = t.ending })
+pub rest_goes_on : (n : ℕ) (ns : List ℕ) (t : Stream) (ending : Ending) → GoesOnFrom (n ∷ ns) ending t
+    → (rest : List ℕ) × (t.items ≡ n ∷ rest) × GoesOnFrom ns ending (record { items = rest; ending = t.ending })
 rest_goes_on n ns t Whole h = (ns, ap (λ (u : Stream). u.items) h, ap (λ (u : Stream). record { items = ns; ending = u.ending }) h)
 rest_goes_on n ns t (Fault e) h = (ns, ap (λ (u : Stream). u.items) h, ap (λ (u : Stream). record { items = ns; ending = u.ending }) h)
 rest_goes_on n ns t (Cut m) h = (ns ++ h.0, h.1, (h.0, refl))

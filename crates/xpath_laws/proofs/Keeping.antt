@@ -58,7 +58,8 @@ text_stays R Q x (Atom atom) = refl
 text_stays R Q x (Fragment events) = refl
 
 pub number_stays : (R Q : Reading) → Extends R Q → (v : Value) → Stays (number_of R v) (number_of Q v)
-number_stays R Q x (Nodes nodes) = bind_stays (text_of_first R (first_of nodes)) (text_of_first Q (first_of nodes)) _ _ (first_text_stays R Q x (first_of nodes)) (λ bytes. stays (calculated (numbers.number_of bytes)))
+number_stays R Q x (Nodes nodes) =
+    bind_stays (text_of_first R (first_of nodes)) (text_of_first Q (first_of nodes)) _ _ (first_text_stays R Q x (first_of nodes)) (λ bytes. stays (calculated (numbers.number_of bytes)))
 number_stays R Q x (Atom atom) = stays (calculated (atoms.number_of atom))
 number_stays R Q x (Fragment events) = stays (calculated (numbers.number_of (fragments.text_of events)))
 

@@ -15,7 +15,8 @@ use Rattle.xpath_syntax.specs.declared.pattern.PatternStart.TheVariants as start
 use Rattle.xpath_syntax.specs.declared.pattern.PatternStep.{PatternStep}
 use Rattle.xpath_meaning.specs.declared.context.Size.{Size}
 use Rattle.xpath_meaning.specs.Conversions.{first_of}
-use Rattle.xpath_meaning.specs.Match.{MatchStep, match_step, fits, beside, size_of, context_at, says, position_in, passes, passes_all, fits_below, is_step_to, sources, is_found_by_ids, is_found_by_key, starts, leads, match_path, match_of}
+use Rattle.xpath_meaning.specs.Match.{MatchStep, match_step, fits, beside, size_of, context_at, says, position_in, passes, passes_all, fits_below}
+use Rattle.xpath_meaning.specs.Match.{is_step_to, sources, is_found_by_ids, is_found_by_key, starts, leads, match_path, match_of}
 use Rattle.xpath_meaning.specs.Meanings.{Meant}
 use Rattle.xpath_meaning.specs.Reading.{Reading, Extends}
 use Rattle.xpath_laws.proofs.Staying.{bind_stays, if_stays, some_stays, each_stays, kept_stays}
@@ -30,14 +31,16 @@ beside_stays false false test R Q x above n = bind_stays _ _ _ _ (x.axis axis.Pr
 says_stays : (R Q : Reading) → Extends R Q → (size : Size) (m : Meant) → MeantKeeps m → (position n : ℕ) → Stays (says R size m position n) (says Q size m position n)
 says_stays R Q x size m k position n = holds_keeps m k R Q x [] (context_at size position n)
 
-passes_stays : (R Q : Reading) → Extends R Q → (known : Bool) (n : ℕ) (predicates : List Meant) → AllKeep predicates → (nodes : List ℕ) → Stays (passes R known n predicates nodes) (passes Q known n predicates nodes)
+passes_stays : (R Q : Reading) → Extends R Q → (known : Bool) (n : ℕ) (predicates : List Meant) → AllKeep predicates → (nodes : List ℕ)
+    → Stays (passes R known n predicates nodes) (passes Q known n predicates nodes)
 passes_stays R Q x known n [] k nodes = refl
 passes_stays R Q x known n (m ∷ []) k nodes = says_stays R Q x (size_of known nodes) m k.0 (position_in 1 n nodes) n
 passes_stays R Q x known n (m ∷ l ∷ later) k nodes =
     bind_stays _ _ _ _ (kept_stays 1 _ _ nodes (says_stays R Q x (size_of known nodes) m k.0))
     (λ left. if_stays (is_member n left) _ _ _ _ (passes_stays R Q x known n (l ∷ later) k.1 left) refl)
 
-passes_all_stays : (R Q : Reading) → Extends R Q → (step : MatchStep) (above n : ℕ) (predicates : List Meant) → AllKeep predicates → Stays (passes_all R step above n predicates) (passes_all Q step above n predicates)
+passes_all_stays : (R Q : Reading) → Extends R Q → (step : MatchStep) (above n : ℕ) (predicates : List Meant) → AllKeep predicates
+    → Stays (passes_all R step above n predicates) (passes_all Q step above n predicates)
 passes_all_stays R Q x step above n [] k = refl
 passes_all_stays R Q x step above n (m ∷ ms) k =
     bind_stays _ _ _ _ (beside_stays step.attribute step.whole step.test R Q x above n) (λ nodes. passes_stays R Q x (step.attribute || step.whole) n (m ∷ ms) k nodes)

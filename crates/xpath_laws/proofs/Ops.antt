@@ -79,7 +79,8 @@ module _ (T O : Rows) where
   calculation_sound : (gives : Num → Num → Result Num NumFault) (a b : Meant) → MeantSound T O a → MeantSound T O b → Sound T O (IsValue T) (calculation gives a b)
   calculation_sound gives a b k l R values c g =
       bind_tells O Anything (IsValue T) _ _ (number_sound T O a k R values c g)
-      (λ m p. bind_tells O Anything (IsValue T) _ _ (number_sound T O b l R values c g) (λ n q. bind_tells O Anything (IsValue T) (calculated (gives m n)) _ (calculated_tells O (gives m n)) (λ v r. tt)))
+      (λ m p. bind_tells O Anything (IsValue T) _ _ (number_sound T O b l R values c g)
+      (λ n q. bind_tells O Anything (IsValue T) (calculated (gives m n)) _ (calculated_tells O (gives m n)) (λ v r. tt)))
 
   comparing_sound : (op : Op) (a b : Meant) → MeantSound T O a → MeantSound T O b → Sound T O (IsValue T) (comparing op a b)
   comparing_sound op a b k l R values c g =

@@ -14,7 +14,8 @@ use Rattle.xpath_syntax.specs.declared.pattern.PatternStart.TheVariants as start
 use Rattle.xpath_syntax.specs.declared.pattern.PatternStep.{PatternStep}
 use Rattle.xpath_meaning.specs.declared.context.Size.{Size}
 use Rattle.xpath_meaning.specs.Conversions.{first_of}
-use Rattle.xpath_meaning.specs.Match.{MatchStep, match_step, fits, beside, size_of, context_at, says, position_in, passes, passes_all, fits_below, is_step_to, sources, is_found_by_ids, is_found_by_key, starts, leads, match_path, match_of}
+use Rattle.xpath_meaning.specs.Match.{MatchStep, match_step, fits, beside, size_of, context_at, says, position_in, passes, passes_all, fits_below}
+use Rattle.xpath_meaning.specs.Match.{is_step_to, sources, is_found_by_ids, is_found_by_key, starts, leads, match_path, match_of}
 use Rattle.xpath_meaning.specs.Meanings.{Meant}
 use Rattle.xpath_meaning.specs.Outcome.{each_of, kept_from}
 use Rattle.xpath_meaning.specs.Reading.{Reading}
@@ -33,7 +34,8 @@ module _ (T O : Rows) (R : Reading) (x : IsReading T O R) where
   beside_told true whole test above n u t = x.axis axis.Attribute test above u
   beside_told false true test above n u t = x.axis axis.Child test above u
   beside_told false false test above n u t =
-      bind_tells O (Each T) (Each T) (R.axis axis.PrecedingSibling test n) _ (x.axis axis.PrecedingSibling test n t) (λ before a. each_append T (reverse before) (n ∷ []) (reversed_each T before [] a tt) (t, tt))
+      bind_tells O (Each T) (Each T) (R.axis axis.PrecedingSibling test n) _ (x.axis axis.PrecedingSibling test n t)
+      (λ before a. each_append T (reverse before) (n ∷ []) (reversed_each T before [] a tt) (t, tt))
 
   says_told : (size : Size) (m : Meant) → MeantSound T O m → (position n : ℕ) → T n → Tells O Anything (says R size m position n)
   says_told size m k position n t = holds_sound T O m k R [] (context_at size position n) (record { reading = x; bound = tt; context = record { node = t; current = t } })
@@ -57,7 +59,8 @@ module _ (T O : Rows) (R : Reading) (x : IsReading T O R) where
       bind_tells O Anything Anything (R.row n) _ (x.row n t) (λ row a. if_tells O Anything (fits step.attribute step.test row) _ _ (passes_all_told step above n p t step.predicates k) tt)
 
   step_to_told : (step : MatchStep) → Each (MeantSound T O) step.predicates → (n : ℕ) → T n → Tells O Anything (is_step_to R step n)
-  step_to_told step k n t = bind_tells O (Each T) Anything (R.axis axis.Parent test.Any n) _ (x.axis axis.Parent test.Any n t) (λ above a. below_told step k n t (first_of above) (first_perhaps T O above a))
+  step_to_told step k n t = bind_tells O (Each T) Anything (R.axis axis.Parent test.Any n) _ (x.axis axis.Parent test.Any n t)
+      (λ above a. below_told step k n t (first_of above) (first_perhaps T O above a))
 
   sources_told : (deep : Bool) (n : ℕ) → T n → Tells O (Each T) (sources R deep n)
   sources_told true n t = x.axis axis.Ancestor test.Any n t
@@ -66,7 +69,8 @@ module _ (T O : Rows) (R : Reading) (x : IsReading T O R) where
   by_ids_told : (ids : List ℕ) (n : ℕ) → Tells O Anything (is_found_by_ids R ids n)
   by_ids_told ids n =
       bind_tells O Anything Anything R.whole _ x.whole
-      (λ shut p. bind_tells O (Each (Each T)) Anything (each_of (λ id. R.by_id id) (words ids)) _ (each_tells O Anything (Each T) (λ id. R.by_id id) (words ids) (each_anything (words ids)) (λ id q. x.by_id id)) (λ lists b. tt))
+      (λ shut p. bind_tells O (Each (Each T)) Anything (each_of (λ id. R.by_id id) (words ids)) _
+      (each_tells O Anything (Each T) (λ id. R.by_id id) (words ids) (each_anything (words ids)) (λ id q. x.by_id id)) (λ lists b. tt))
 
   by_key_told : (slot : Option ℕ) (value : List ℕ) (n : ℕ) → Tells O Anything (is_found_by_key R slot value n)
   by_key_told None value n = tt
@@ -86,7 +90,8 @@ module _ (T O : Rows) (R : Reading) (x : IsReading T O R) where
   leads_told s [] k n t = starts_told s n
   leads_told s (step ∷ steps) k n t =
       bind_tells O Anything Anything (is_step_to R step n) _ (step_to_told step k.0 n t)
-      (λ here a. if_tells O Anything here _ _ (bind_tells O (Each T) Anything (sources R step.deep n) _ (sources_told step.deep n t) (λ above b. some_tells O T (leads R s steps) above b (leads_told s steps k.1))) tt)
+      (λ here a. if_tells O Anything here _ _
+      (bind_tells O (Each T) Anything (sources R step.deep n) _ (sources_told step.deep n t) (λ above b. some_tells O T (leads R s steps) above b (leads_told s steps k.1))) tt)
 
   all_fit : (steps : List PatternStep) → AllFit (map match_step steps)
   all_fit [] = tt

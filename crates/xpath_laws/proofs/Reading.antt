@@ -73,13 +73,15 @@ children_begin rules p q test n g j =
     let long : length (rows_of q) ≡ c + length r.0 = ap length r.1 ∙ length-append (rows_of p) r.0 in (
       filter f (numbers (0 + c) (length r.0)),
       ap (λ i. filter f (numbers 0 i)) long ∙ filter-split f 0 c (length r.0)
-          ∙ ap (λ xs. xs ++ filter f (numbers (0 + c) (length r.0))) (filter_same f (is_selected rules (rows_of p) n axis.Child test) 0 c (λ k x y. selected_later rules p q n axis.Child test k g j (omega arith))),
+          ∙ ap (λ xs. xs ++ filter f (numbers (0 + c) (length r.0)))
+          (filter_same f (is_selected rules (rows_of p) n axis.Child test) 0 c (λ k x y. selected_later rules p q n axis.Child test k g j (omega arith))),
     )
 
 abbrev pub there : List StripRule → List Step → Test → ℕ → Bool → Stream
 there rules steps test n o = record { items = axis_rows rules (rows_of steps) n axis.Child test; ending = cond o (Cut n) Whole }
 
-pub children_there : (rules : List StripRule) (steps : List Step) (test : Test) (n : ℕ) (o : Bool) → IsJoined steps n → is_open steps n ≡ o → children_so_far rules steps test n ≡ there rules steps test n o
+pub children_there : (rules : List StripRule) (steps : List Step) (test : Test) (n : ℕ) (o : Bool) → IsJoined steps n → is_open steps n ≡ o
+    → children_so_far rules steps test n ≡ there rules steps test n o
 children_there rules steps test n o j e =
     ap (λ b. cond b (there rules steps test n (is_open steps n)) (record { items = []; ending = Cut n })) (lt-ltb n (length (rows_of steps)) j) ∙ ap (there rules steps test n) e
 
@@ -113,7 +115,8 @@ id_stays id p q value g l = with_faults_stays _ _ (root_stays p q (λ rows. id_r
 abbrev pub ValuesLast : Type 0
 ValuesLast = (rules : List StripRule) (n : ℕ) → Lasts (λ steps. string_value_of rules steps n)
 
-pub without_keys_extends : ValuesLast → (rules : List StripRule) (id : Option (List ℕ)) (p q : List Step) → Grows p q → IsLawful q → Extends (reading_without_keys rules id p) (reading_without_keys rules id q)
+pub without_keys_extends : ValuesLast → (rules : List StripRule) (id : Option (List ℕ)) (p q : List Step) → Grows p q → IsLawful q
+    → Extends (reading_without_keys rules id p) (reading_without_keys rules id q)
 unfolding reading_without_keys
 without_keys_extends kept rules id p q g l = record {
   axis = λ axis test n. with_faults_stays _ _ (axis_stays rules p q n axis test g l);
@@ -133,11 +136,13 @@ strings_by_stays R Q x n key =
 has_string_stays : (R Q : Reading) → Extends R Q → (keys : List KeyDecl) (value : List ℕ) (n : ℕ) → Stays (has_string R keys value n) (has_string Q keys value n)
 has_string_stays R Q x keys value n = bind_stays _ _ _ _ (bind_stays _ _ _ _ (each_stays _ _ keys (strings_by_stays R Q x n)) (λ lists. refl)) (λ strings. refl)
 
-pub key_stays : (R Q : Reading) → Extends R Q → (rules : List StripRule) (keys : List KeyDecl) (p q : List Step) (key : ℕ) (value : List ℕ) → Grows p q → IsLawful q → Stays (key_nodes_of R rules keys p key value) (key_nodes_of Q rules keys q key value)
+pub key_stays : (R Q : Reading) → Extends R Q → (rules : List StripRule) (keys : List KeyDecl) (p q : List Step) (key : ℕ) (value : List ℕ) → Grows p q → IsLawful q
+    → Stays (key_nodes_of R rules keys p key value) (key_nodes_of Q rules keys q key value)
 key_stays R Q x rules keys p q key value g l =
     bind_stays _ _ _ _ (with_faults_stays _ _ (root_stays p q (visible_rows rules) g l)) (λ rows. kept_stays 0 _ _ rows (λ at n. has_string_stays R Q x (declarations keys key) value n))
 
-pub reading_extends : ValuesLast → (rules : List StripRule) (keys : List KeyDecl) (id : Option (List ℕ)) (p q : List Step) → Grows p q → IsLawful q → Extends (reading_of rules keys id p) (reading_of rules keys id q)
+pub reading_extends : ValuesLast → (rules : List StripRule) (keys : List KeyDecl) (id : Option (List ℕ)) (p q : List Step) → Grows p q → IsLawful q
+    → Extends (reading_of rules keys id p) (reading_of rules keys id q)
 unfolding reading_of
 reading_extends kept rules keys id p q g l = record {
   axis = λ axis test n. with_faults_stays _ _ (axis_stays rules p q n axis test g l);

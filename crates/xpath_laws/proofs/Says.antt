@@ -18,7 +18,9 @@ use Rattle.xpath_values.specs.declared.value.Value.{Value}
 use Rattle.xpath_values.specs.declared.value.Value.TheVariants.{Nodes, Atom, Fragment}
 use Rattle.xpath_meaning.specs.declared.context.Size.{Size}
 use Rattle.xpath_meaning.specs.declared.context.Size.TheVariants as size
-use Rattle.xpath_meaning.specs.Calls.{Call, taking_none, taking_one, taking_one_or_none, taking_two, taking_three, taking_two_or_three, of_text, of_two_texts, of_number, of_truth, of_first, of_node, part_of_name, length_of, substring_of, substring_within, translation, concatenation, own_number, speaking, called, called_if, function_of, call}
+use Rattle.xpath_meaning.specs.Calls.{Call, taking_none, taking_one, taking_one_or_none, taking_two, taking_three, taking_two_or_three, of_text}
+use Rattle.xpath_meaning.specs.Calls.{of_two_texts, of_number, of_truth, of_first, of_node, part_of_name, length_of, substring_of, substring_within}
+use Rattle.xpath_meaning.specs.Calls.{translation, concatenation, own_number, speaking, called, called_if, function_of, call}
 use Rattle.xpath_meaning.specs.Conversions.{number, first_of}
 use Rattle.xpath_meaning.specs.Functions.{size_value, sum_onto, lang_test, lang_here, nearest_lang, language_of, texts_of, looked_up, named_by_ids, found_by_key}
 use Rattle.xpath_meaning.specs.Meanings.{Meaning, Meant, text_at}
@@ -42,7 +44,8 @@ module _ (T O : Rows) where
   sum_told R x total [] a = tt
   sum_told R x total (n ∷ ns) a =
       bind_tells O Anything Anything (R.value n) _ (x.value n a.0)
-      (λ bytes p. bind_tells O Anything Anything _ _ (calculated_tells O (numbers.number_of bytes)) (λ k q. bind_tells O Anything Anything _ _ (calculated_tells O (sum_of total k)) (λ more r. sum_told R x more ns a.1)))
+      (λ bytes p. bind_tells O Anything Anything _ _ (calculated_tells O (numbers.number_of bytes))
+      (λ k q. bind_tells O Anything Anything _ _ (calculated_tells O (sum_of total k)) (λ more r. sum_told R x more ns a.1)))
 
   here_told : (R : Reading) → IsReading T O R → (found : Option ℕ) → Perhaps T found → (outer : Outcome (Option (List ℕ))) → Tells O Anything outer → Tells O Anything (lang_here R found outer)
   here_told R x None p outer s = s
@@ -51,7 +54,8 @@ module _ (T O : Rows) where
   nearest_told : (R : Reading) → IsReading T O R → (nodes : List ℕ) → Each T nodes → Tells O Anything (nearest_lang R nodes)
   nearest_told R x [] a = tt
   nearest_told R x (n ∷ ns) a =
-      bind_tells O (Each T) Anything (R.axis axis.Attribute lang_test n) _ (x.axis axis.Attribute lang_test n a.0) (λ found b. here_told R x (first_of found) (first_perhaps T O found b) _ (nearest_told R x ns a.1))
+      bind_tells O (Each T) Anything (R.axis axis.Attribute lang_test n) _ (x.axis axis.Attribute lang_test n a.0)
+      (λ found b. here_told R x (first_of found) (first_perhaps T O found b) _ (nearest_told R x ns a.1))
 
   language_told : (R : Reading) → IsReading T O R → (n : ℕ) → T n → Tells O Anything (language_of R n)
   language_told R x n t = bind_tells O (Each T) Anything (R.axis axis.AncestorOrSelf test.Any n) _ (x.axis axis.AncestorOrSelf test.Any n t) (λ nodes a. nearest_told R x nodes a)
@@ -69,7 +73,8 @@ module _ (T O : Rows) where
   looked_told : (R : Reading) → IsReading T O R → (f : List ℕ → Outcome (List ℕ)) → ((text : List ℕ) → Tells O (Each T) (f text)) → (texts : List (List ℕ)) → Tells O (IsValue T) (looked_up R f texts)
   looked_told R x f h texts =
       bind_tells O Anything (IsValue T) R.whole _ x.whole
-      (λ shut p. bind_tells O (Each (Each T)) (IsValue T) (each_of f texts) _ (each_tells O Anything (Each T) f texts (each_anything texts) (λ text q. h text)) (λ lists b. ordered_set T (joined lists) (joined_each T lists b)))
+      (λ shut p. bind_tells O (Each (Each T)) (IsValue T) (each_of f texts) _ (each_tells O Anything (Each T) f texts (each_anything texts) (λ text q. h text))
+      (λ lists b. ordered_set T (joined lists) (joined_each T lists b)))
 
   ids_told : (R : Reading) → IsReading T O R → (v : Value) → IsValue T v → Tells O (IsValue T) (named_by_ids R v)
   ids_told R x v i = bind_tells O Anything (IsValue T) (texts_of R v) _ (texts_told R x v i) (λ texts p. looked_told R x (λ id. R.by_id id) x.by_id (flat_map words texts))
@@ -133,7 +138,8 @@ module _ (T O : Rows) where
       (λ m k R values c g. bind_tells O Anything (IsValue T) _ f (text_sound T O m k R values c g) (λ bytes p. h bytes))
 
   two_texts_call : (f : List ℕ → List ℕ → Value) → ((a b : List ℕ) → IsValue T (f a b)) → CallSound (of_two_texts f)
-  two_texts_call f h = two_sound _ (λ m k p q R values c g. bind_tells O Anything (IsValue T) _ _ (text_sound T O m p R values c g) (λ a r. bind_tells O Anything (IsValue T) _ _ (text_sound T O k q R values c g) (λ b s. h a b)))
+  two_texts_call f h = two_sound _
+      (λ m k p q R values c g. bind_tells O Anything (IsValue T) _ _ (text_sound T O m p R values c g) (λ a r. bind_tells O Anything (IsValue T) _ _ (text_sound T O k q R values c g) (λ b s. h a b)))
 
   number_call : CallSound (of_number number)
   number_call = one_sound _ (λ m k R values c g. bind_tells O Anything (IsValue T) _ _ (number_sound T O m k R values c g) (λ n p. tt))
@@ -147,13 +153,15 @@ module _ (T O : Rows) where
 
   node_call : (f : Reading → ℕ → Outcome Value) → ((R : Reading) → IsReading T O R → (n : ℕ) → T n → Tells O (IsValue T) (f R n)) → CallSound (of_node f)
   node_call f h = one_or_none_sound _ _ (λ R values c g. h R g.reading c.node g.context.node)
-      (λ m k R values c g. bind_tells O (IsNodeSet T) (IsValue T) _ _ (nodes_sound T O m k R values c g) (λ nodes i. of_first_told (f R) (h R g.reading) (first_of nodes) (first_perhaps T O nodes i.1)))
+      (λ m k R values c g. bind_tells O (IsNodeSet T) (IsValue T) _ _ (nodes_sound T O m k R values c g)
+      (λ nodes i. of_first_told (f R) (h R g.reading) (first_of nodes) (first_perhaps T O nodes i.1)))
 
   part_told : (part : Row → List ℕ) (R : Reading) → IsReading T O R → (n : ℕ) → T n → Tells O (IsValue T) (part_of_name part R n)
   part_told part R x n t = bind_tells O Anything (IsValue T) (R.row n) _ (x.row n t) (λ row p. tt)
 
   substring_sound : Good2 substring_of
-  substring_sound m k p q R values c g = bind_tells O Anything (IsValue T) _ _ (text_sound T O m p R values c g) (λ bytes r. bind_tells O Anything (IsValue T) _ _ (number_sound T O k q R values c g) (λ a s. tt))
+  substring_sound m k p q R values c g =
+      bind_tells O Anything (IsValue T) _ _ (text_sound T O m p R values c g) (λ bytes r. bind_tells O Anything (IsValue T) _ _ (number_sound T O k q R values c g) (λ a s. tt))
 
   within_sound : Good3 substring_within
   within_sound m k l p q r R values c g =
@@ -172,7 +180,8 @@ module _ (T O : Rows) where
 
   own_number_sound : Good own_number
   own_number_sound R values c g =
-      bind_tells O Anything (IsValue T) (R.value c.node) _ (g.reading.value c.node g.context.node) (λ bytes p. bind_tells O Anything (IsValue T) _ _ (calculated_tells O (numbers.number_of bytes)) (λ n q. tt))
+      bind_tells O Anything (IsValue T) (R.value c.node) _ (g.reading.value c.node g.context.node)
+      (λ bytes p. bind_tells O Anything (IsValue T) _ _ (calculated_tells O (numbers.number_of bytes)) (λ n q. tt))
 
   speaking_sound : Good1 speaking
   speaking_sound m k R values c g =

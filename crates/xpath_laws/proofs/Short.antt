@@ -37,7 +37,8 @@ only_one f count m l h only = one_order 0 0 (filter f (numbers 0 count)) (m ∷ 
     ]))
 
 -- the rows of an axis that needs no row shut
-known_axis : (rules : List StripRule) (steps : List Step) (n : ℕ) → IsThere rules steps n → (rows : List ℕ) → with_faults {F = FaultKind} (cond (ltb n (length (rows_of steps))) (once_shut steps None rows) (Open n)) ≡ Known rows
+known_axis : (rules : List StripRule) (steps : List Step) (n : ℕ) → IsThere rules steps n → (rows : List ℕ)
+    → with_faults {F = FaultKind} (cond (ltb n (length (rows_of steps))) (once_shut steps None rows) (Open n)) ≡ Known rows
 known_axis rules steps n t rows = ap (λ b. with_faults {F = FaultKind} (cond b (once_shut steps None rows) (Open n))) (lt-ltb n (length (rows_of steps)) t.0)
 
 itself_alone : (rules : List StripRule) (steps : List Step) (n : ℕ) → IsThere rules steps n → axis_rows rules (rows_of steps) n axis.Itself test.Any ≡ n ∷ []
@@ -45,7 +46,8 @@ itself_alone rules steps n t = only_one (is_selected rules (rows_of steps) n axi
     (and_from (is_visible rules (rows_of steps) n) (eqb n n) t.1 (eq-eqb n n refl))
     (λ k s. sym (eqb-true n k (and_parts (is_visible rules (rows_of steps) k) (eqb n k) s).1))
 
-pub dot_is : (rules : List StripRule) (keys : List KeyDecl) (id : Option (List ℕ)) (steps : List Step) (n : ℕ) → IsThere rules steps n → nodes_on (reading_of rules keys id steps) name.Itself written.Node n ≡ Known (n ∷ [])
+pub dot_is : (rules : List StripRule) (keys : List KeyDecl) (id : Option (List ℕ)) (steps : List Step) (n : ℕ) → IsThere rules steps n
+    → nodes_on (reading_of rules keys id steps) name.Itself written.Node n ≡ Known (n ∷ [])
 unfolding reading_of
 dot_is rules keys id steps n t = known_axis rules steps n t (axis_rows rules (rows_of steps) n axis.Itself test.Any) ∙ ap Known (itself_alone rules steps n t)
 

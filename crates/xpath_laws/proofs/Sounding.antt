@@ -91,7 +91,8 @@ module _ (T O : Rows) where
   number_by_sound : (items : Option (Meaning Stream)) (value : Meaning (Outcome Value)) → SoundItemsIf T O items → Sound T O (IsValue T) value → Sound T O Anything (number_by items value)
   number_by_sound None value i k R values c g = bind_tells O (IsValue T) Anything (value R values c) (number_of R) (k R values c g) (number_told R g.reading)
   number_by_sound (Some items) value i k R values c g =
-      bind_tells O Anything Anything _ _ (bind_tells O (Perhaps T) Anything _ (text_of_first R) (first_tells O T (items R values c) (i R values c g)) (first_text_told R g.reading)) (λ bytes a. calculated_tells O (numbers.number_of bytes))
+      bind_tells O Anything Anything _ _ (bind_tells O (Perhaps T) Anything _ (text_of_first R) (first_tells O T (items R values c) (i R values c g)) (first_text_told R g.reading))
+      (λ bytes a. calculated_tells O (numbers.number_of bytes))
 
   pub number_sound : (m : Meant) → MeantSound T O m → Sound T O Anything (number_at m)
   number_sound m k = number_by_sound m.items m.value k.items k.value

@@ -19,7 +19,8 @@ use Rattle.xpath_laws.proofs.Staying.{bind_stays, stays, each_stays}
 pub sum_stays : (R Q : Reading) → Extends R Q → (total : Num) (nodes : List ℕ) → Stays (sum_onto R total nodes) (sum_onto Q total nodes)
 sum_stays R Q x total [] = refl
 sum_stays R Q x total (n ∷ ns) =
-    bind_stays _ _ _ _ (x.value n) (λ bytes. bind_stays _ _ _ _ (stays (calculated (numbers.number_of bytes))) (λ k. bind_stays _ _ _ _ (stays (calculated (sum_of total k))) (λ more. sum_stays R Q x more ns)))
+    bind_stays _ _ _ _ (x.value n)
+    (λ bytes. bind_stays _ _ _ _ (stays (calculated (numbers.number_of bytes))) (λ k. bind_stays _ _ _ _ (stays (calculated (sum_of total k))) (λ more. sum_stays R Q x more ns)))
 
 here_stays : (R Q : Reading) → Extends R Q → (found : Option ℕ) (a b : Outcome (Option (List ℕ))) → Stays a b → Stays (lang_here R found a) (lang_here Q found b)
 here_stays R Q x None a b s = s
@@ -37,7 +38,8 @@ texts_stay R Q x (Nodes nodes) = each_stays _ _ nodes (λ n. x.value n)
 texts_stay R Q x (Atom atom) = refl
 texts_stay R Q x (Fragment events) = refl
 
-looked_stays : (R Q : Reading) → Extends R Q → (f g : List ℕ → Outcome (List ℕ)) → ((text : List ℕ) → Stays (f text) (g text)) → (texts : List (List ℕ)) → Stays (looked_up R f texts) (looked_up Q g texts)
+looked_stays : (R Q : Reading) → Extends R Q → (f g : List ℕ → Outcome (List ℕ)) → ((text : List ℕ) → Stays (f text) (g text)) → (texts : List (List ℕ))
+    → Stays (looked_up R f texts) (looked_up Q g texts)
 looked_stays R Q x f g s texts = bind_stays _ _ _ _ x.whole (λ shut. bind_stays _ _ _ _ (each_stays f g texts s) (λ lists. refl))
 
 pub ids_stay : (R Q : Reading) → Extends R Q → (v : Value) → Stays (named_by_ids R v) (named_by_ids Q v)

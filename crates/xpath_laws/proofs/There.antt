@@ -1,5 +1,6 @@
 -- What is read of a lawful list tells of rows that are there, and waits only for rows that are open.
-use Rattle.std.proofs.Common.{◌≡◌, refl, sym, ap, ◌∙◌, subst, not, ℕ, ◌+◌, ◌<◌, List, [], ◌∷◌, length, filter, Bool, true, false, cond, ◌&&◌, ◌||◌, ltb, eqb, zero, suc, Option, Some, None, arith, inl, inr}
+use Rattle.std.proofs.Common.{◌≡◌, refl, sym, ap, ◌∙◌, subst, not, ℕ, ◌+◌, ◌<◌, List, [], ◌∷◌, length, filter, Bool, true, false, cond, ◌&&◌, ◌||◌}
+use Rattle.std.proofs.Common.{ltb, eqb, zero, suc, Option, Some, None, arith, inl, inr}
 use Rattle.std.proofs.lemmas.Bool.{cases_Bool, lt-ltb, ltb-true, and_parts, and_left, and_right, eq-eqb, eqb-true, false≢true}
 use Rattle.std.specs.List.{list_any}
 use Rattle.doc_model.specs.declared.node_test.Test.{Test}
@@ -45,7 +46,8 @@ shut_told steps V (Some m) y v = by_open (is_open steps m) refl
     by_open true e = e
     by_open false e = v
 
-joined_told : (steps : List Step) {A : Type 0} (V : A → Type 0) (n : ℕ) (a : Answer ⊥ A) → IsJoined steps n → Tells (IsOpen steps) V (with_faults a) → Tells (IsOpen steps) V (with_faults (once_joined steps n a))
+joined_told : (steps : List Step) {A : Type 0} (V : A → Type 0) (n : ℕ) (a : Answer ⊥ A) → IsJoined steps n → Tells (IsOpen steps) V (with_faults a)
+    → Tells (IsOpen steps) V (with_faults (once_joined steps n a))
 joined_told steps V n a j s = subst (λ b. Tells (IsOpen steps) V (with_faults (cond b a (Open n)))) (sym (lt-ltb n (length (rows_of steps)) j)) s
 
 selected_there : (rules : List StripRule) (steps : List Step) (n : ℕ) (axis : Axis) (test : Test) → Each (IsThere rules steps) (axis_rows rules (rows_of steps) n axis test)
@@ -54,9 +56,11 @@ selected_there rules steps n axis test = each_by_members (IsThere rules steps) (
     let p = and_parts (ltb k (length (rows_of steps))) (is_selected rules (rows_of steps) n axis test k) (sym (axis_members rules (rows_of steps) n axis test k) ∙ m) in
     (ltb-true k (length (rows_of steps)) p.0, (and_parts (is_visible rules (rows_of steps) k) _ p.1).0))
 
-pub axis_there : (rules : List StripRule) (steps : List Step) (axis : Axis) (test : Test) (n : ℕ) → IsThere rules steps n → Tells (IsOpen steps) (Each (IsThere rules steps)) (with_faults (axis_of rules steps n axis test))
+pub axis_there : (rules : List StripRule) (steps : List Step) (axis : Axis) (test : Test) (n : ℕ) → IsThere rules steps n
+    → Tells (IsOpen steps) (Each (IsThere rules steps)) (with_faults (axis_of rules steps n axis test))
 axis_there rules steps axis test n t =
-    joined_told steps (Each (IsThere rules steps)) n _ t.0 (shut_told steps (Each (IsThere rules steps)) (need_of axis (rows_of steps) n) (axis_rows rules (rows_of steps) n axis test) (selected_there rules steps n axis test))
+    joined_told steps (Each (IsThere rules steps)) n _ t.0
+    (shut_told steps (Each (IsThere rules steps)) (need_of axis (rows_of steps) n) (axis_rows rules (rows_of steps) n axis test) (selected_there rules steps n axis test))
 
 pub value_there : (rules : List StripRule) (steps : List Step) (n : ℕ) → IsThere rules steps n → Tells (IsOpen steps) Anything (with_faults (string_value_of rules steps n))
 value_there rules steps n t = joined_told steps Anything n _ t.0 (shut_told steps Anything (value_need (rows_of steps) n) (value_in rules (rows_of steps) n) tt)
@@ -68,8 +72,10 @@ children_flow : (rules : List StripRule) (steps : List Step) (test : Test) (n : 
 children_flow rules steps test n t = by_open (is_open steps n) refl
   where
     by_open : (o : Bool) → is_open steps n ≡ o → Flows (IsThere rules steps) (IsOpen steps) (children_so_far rules steps test n)
-    by_open true e = subst (Flows (IsThere rules steps) (IsOpen steps)) (sym (children_there rules steps test n true t.0 e)) (record { items = selected_there rules steps n axis.Child test; ending = e })
-    by_open false e = subst (Flows (IsThere rules steps) (IsOpen steps)) (sym (children_there rules steps test n false t.0 e)) (record { items = selected_there rules steps n axis.Child test; ending = tt })
+    by_open true e = subst (Flows (IsThere rules steps) (IsOpen steps)) (sym (children_there rules steps test n true t.0 e))
+        (record { items = selected_there rules steps n axis.Child test; ending = e })
+    by_open false e = subst (Flows (IsThere rules steps) (IsOpen steps)) (sym (children_there rules steps test n false t.0 e))
+        (record { items = selected_there rules steps n axis.Child test; ending = tt })
 
 -- only a text may be hidden
 pub no_text : (k : Kind) → is_parent k ≡ true → is_text k ≡ false
@@ -148,19 +154,22 @@ module _ (T O : Rows) (R : Reading) (x : IsReading T O R) where
   strings_by_told n t key =
       bind_tells O Anything Anything (match_of R key.matches n) _ (match_told T O R x key.matches n t)
       (λ matches a. if_tells O Anything matches _ _
-      (bind_tells O (IsValue T) Anything (evaluation_of R key.value [] (alone n)) (texts_of R) (evaluation_told T O R key.value [] (alone n) x tt (record { node = t; current = t })) (texts_told T O R x)) tt)
+      (bind_tells O (IsValue T) Anything (evaluation_of R key.value [] (alone n)) (texts_of R)
+      (evaluation_told T O R key.value [] (alone n) x tt (record { node = t; current = t })) (texts_told T O R x)) tt)
 
   has_string_told : (keys : List KeyDecl) (value : List ℕ) (n : ℕ) → T n → Tells O Anything (has_string R keys value n)
   has_string_told keys value n t =
       bind_tells O Anything Anything (strings_of R keys n) _
-      (bind_tells O (Each Anything) Anything (each_of (strings_by R n) keys) _ (each_tells O Anything Anything (strings_by R n) keys (each_anything keys) (λ key a. strings_by_told n t key)) (λ lists a. tt)) (λ strings a. tt)
+      (bind_tells O (Each Anything) Anything (each_of (strings_by R n) keys) _
+      (each_tells O Anything Anything (strings_by R n) keys (each_anything keys) (λ key a. strings_by_told n t key)) (λ lists a. tt)) (λ strings a. tt)
 
   each_left : (nodes : List ℕ) (o : Outcome (List ℕ)) → Tells O (Left T nodes) o → Tells O (Each T) o
   each_left nodes (Known ks) s = s.each
   each_left nodes (Fault e) s = tt
   each_left nodes (Open m) s = s
 
-key_there : (rules : List StripRule) (keys : List KeyDecl) (id : Option (List ℕ)) (steps : List Step) (key : ℕ) (value : List ℕ) → Tells (IsOpen steps) (Each (IsThere rules steps)) (key_nodes_of (reading_without_keys rules id steps) rules keys steps key value)
+key_there : (rules : List StripRule) (keys : List KeyDecl) (id : Option (List ℕ)) (steps : List Step) (key : ℕ) (value : List ℕ)
+    → Tells (IsOpen steps) (Each (IsThere rules steps)) (key_nodes_of (reading_without_keys rules id steps) rules keys steps key value)
 key_there rules keys id steps key value =
     let T : ℕ → Type 0 = IsThere rules steps in
     let O : ℕ → Type 0 = IsOpen steps in

@@ -9,7 +9,8 @@ use Rattle.xpath_syntax.specs.declared.expression.StepExpr.{StepExpr, roll-StepE
 use Rattle.xpath_values.specs.declared.value.Value.{Value}
 use Rattle.xpath_meaning.specs.declared.context.Context.{Context}
 use Rattle.xpath_meaning.specs.Conversions.{nodes_of}
-use Rattle.xpath_meaning.specs.Evaluation.{or_nothing, value_in, path_value, filter_value, expr_means, path_means, step_means, meant, meant_path, meant_step, evaluation_of, path_items_of, items_by, items_of}
+use Rattle.xpath_meaning.specs.Evaluation.{or_nothing, value_in, path_value, filter_value, expr_means, path_means, step_means, meant, meant_path}
+use Rattle.xpath_meaning.specs.Evaluation.{meant_step, evaluation_of, path_items_of, items_by, items_of}
 use Rattle.xpath_meaning.specs.Meanings.{Meaning, Meant, MeantStep, MeantPath, nodes_at}
 use Rattle.xpath_meaning.specs.Outcome.{Outcome}
 use Rattle.xpath_meaning.specs.Reading.{Reading}
@@ -35,7 +36,8 @@ module _ (T O : Rows) where
   path_value_sound : (path : MeantPath) → PathSound T O path → Sound T O (IsValue T) (path_value path)
   path_value_sound path k R values c g = bind_tells O (IsNodeSet T) (IsValue T) (path_nodes path R values c) _ (path_nodes_sound T O path k R values c g) (λ nodes i. i)
 
-  filter_sound : (m : Meant) (predicates : List Meant) (tail : Option MeantPath) → MeantSound T O m → Each (MeantSound T O) predicates → PathSoundIf T O tail → Sound T O (IsValue T) (filter_value m predicates tail)
+  filter_sound : (m : Meant) (predicates : List Meant) (tail : Option MeantPath) → MeantSound T O m → Each (MeantSound T O) predicates → PathSoundIf T O tail
+      → Sound T O (IsValue T) (filter_value m predicates tail)
   filter_sound m predicates tail k a t R values c g =
       bind_tells O (IsNodeSet T) (IsValue T) (nodes_at m R values c) _ (nodes_sound T O m k R values c g)
       (λ nodes i. bind_tells O (Left T nodes) (IsValue T) (filtered predicates nodes R values c) _ (filtered_sound T O predicates a nodes i.1 R values c g)
@@ -134,7 +136,8 @@ module _ (T O : Rows) where
   pub path_items_told : (R : Reading) (path : Path) (values : List Value) (c : Context) → IsReading T O R → AllValues T values → IsContext T c → Flows T O (path_items_of R path values c)
   path_items_told R path values c x a k = path_items_sound T O (meant_path path) (path_sound path) R values c (given R values c x a k)
 
-  items_by_told : (items : Option (Meaning Stream)) (value : Meaning (Outcome Value)) → SoundItemsIf T O items → Sound T O (IsValue T) value → (R : Reading) (values : List Value) (c : Context) → Given T O R values c → Flows T O (items_by items value R values c)
+  items_by_told : (items : Option (Meaning Stream)) (value : Meaning (Outcome Value)) → SoundItemsIf T O items → Sound T O (IsValue T) value
+      → (R : Reading) (values : List Value) (c : Context) → Given T O R values c → Flows T O (items_by items value R values c)
   items_by_told None value i k R values c g =
       stream_flows O T (IsNodeSet T) _ _ (bind_tells O (IsValue T) (IsNodeSet T) (value R values c) nodes_of (k R values c g) (nodes_told T O)) (λ nodes j. record { items = j.1; ending = tt })
   items_by_told (Some items) value i k R values c g = i R values c g

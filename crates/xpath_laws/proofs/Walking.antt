@@ -28,11 +28,13 @@ kept_by_keeps predicate k nodes R Q x values c =
 pub filtered_keeps : (predicates : List Meant) → AllKeep predicates → (nodes : List ℕ) → Keeps (filtered predicates nodes)
 filtered_keeps [] k nodes R Q x values c = refl
 filtered_keeps (predicate ∷ predicates) k nodes R Q x values c =
-    bind_stays (kept_by predicate nodes R values c) (kept_by predicate nodes Q values c) _ _ (kept_by_keeps predicate k.0 nodes R Q x values c) (λ left. filtered_keeps predicates k.1 left R Q x values c)
+    bind_stays (kept_by predicate nodes R values c) (kept_by predicate nodes Q values c) _ _ (kept_by_keeps predicate k.0 nodes R Q x values c)
+    (λ left. filtered_keeps predicates k.1 left R Q x values c)
 
 pub step_from_keeps : (step : MeantStep) → StepKeeps step → (n : ℕ) → Keeps (step_from step n)
 step_from_keeps step k n R Q x values c =
-    bind_stays (nodes_on R step.axis step.test n) (nodes_on Q step.axis step.test n) _ _ (on_axis_stays R Q x (axis_of step.axis) (test_of step.test) n) (λ nodes. filtered_keeps step.predicates k nodes R Q x values c)
+    bind_stays (nodes_on R step.axis step.test n) (nodes_on Q step.axis step.test n) _ _ (on_axis_stays R Q x (axis_of step.axis) (test_of step.test) n)
+    (λ nodes. filtered_keeps step.predicates k nodes R Q x values c)
 
 pub step_nodes_keep : (step : MeantStep) → StepKeeps step → (nodes : List ℕ) → Keeps (step_nodes step nodes)
 step_nodes_keep step k nodes R Q x values c =
@@ -67,7 +69,8 @@ if_goes_on : (b : Bool) (s t : Stream) → GoesOn s t → GoesOn (if_passed b s)
 if_goes_on true s t l = l
 if_goes_on false s t l = refl
 
-through_goes_on : (predicates : List Meant) → AllKeep predicates → (f g : ℕ → Stream) → ((n : ℕ) → GoesOn (f n) (g n)) → (R Q : Reading) → Extends R Q → (values : List Value) (c : Context) (counts ns : List ℕ) (ending : Ending) (t : Stream)
+through_goes_on : (predicates : List Meant) → AllKeep predicates → (f g : ℕ → Stream) → ((n : ℕ) → GoesOn (f n) (g n)) → (R Q : Reading) → Extends R Q
+    → (values : List Value) (c : Context) (counts ns : List ℕ) (ending : Ending) (t : Stream)
     → GoesOnFrom ns ending t → GoesOn (through predicates f counts ns ending R values c) (through predicates g counts t.items t.ending Q values c)
 through_goes_on predicates k f g l R Q x values c counts [] Whole t h = ap (λ (u : Stream). through predicates g counts u.items u.ending Q values c) h
 through_goes_on predicates k f g l R Q x values c counts [] (Fault e) t h = ap (λ (u : Stream). through predicates g counts u.items u.ending Q values c) h
@@ -76,7 +79,8 @@ through_goes_on predicates k f g l R Q x values c counts (n ∷ ns) ending t h =
     let r = rest_goes_on n ns t ending h in
     subst (λ items. GoesOn (through predicates f counts (n ∷ ns) ending R values c) (through predicates g counts items t.ending Q values c)) (sym r.1)
     (stream_goes_on (tested predicates counts n R values c) (tested predicates counts n Q values c) _ _ (tested_keeps predicates k counts n R Q x values c)
-    (λ tested. then_goes_on _ _ _ _ (if_goes_on tested.passed (f n) (g n) (l n)) (through_goes_on predicates k f g l R Q x values c tested.counts ns ending (record { items = r.0; ending = t.ending }) r.2)))
+    (λ tested. then_goes_on _ _ _ _ (if_goes_on tested.passed (f n) (g n) (l n))
+    (through_goes_on predicates k f g l R Q x values c tested.counts ns ending (record { items = r.0; ending = t.ending }) r.2)))
 
 pub steps_items_keep : (steps : List MeantStep) → AllStepsKeep steps → (n : ℕ) → KeepsItems (steps_items steps n)
 steps_items_keep [] k n R Q x values c = refl

@@ -33,7 +33,8 @@ module _ (T O : Rows) where
 
   pub kept_by_sound : (predicate : Meant) → MeantSound T O predicate → (nodes : List ℕ) → Each T nodes → Sound T O (Left T nodes) (kept_by predicate nodes)
   kept_by_sound predicate k nodes a R values c g =
-      kept_tells O T 1 _ nodes a (λ position n t. holds_sound T O predicate k R values (at_node c (size.Known (length nodes)) position n) (at_given T O R values c (size.Known (length nodes)) position n t g))
+      kept_tells O T 1 _ nodes a (λ position n t. holds_sound T O predicate k R values (at_node c (size.Known (length nodes)) position n)
+      (at_given T O R values c (size.Known (length nodes)) position n t g))
 
   bind_left : (nodes left : List ℕ) → Left T nodes left → (o : Outcome (List ℕ)) → Tells O (Left T left) o → Tells O (Left T nodes) o
   bind_left nodes left l (Known ks) s = left_on T nodes left ks l s
@@ -58,7 +59,8 @@ module _ (T O : Rows) where
 
   pub step_nodes_sound : (step : MeantStep) → StepSound T O step → (nodes : List ℕ) → Each T nodes → Sound T O (IsNodeSet T) (step_nodes step nodes)
   step_nodes_sound step k nodes a R values c g =
-      bind_tells O (Each (Each T)) (IsNodeSet T) (each_of (λ n. step_from step n R values c) nodes) _ (each_tells O T (Each T) (λ n. step_from step n R values c) nodes a (λ n t. step_from_sound step k n t R values c g))
+      bind_tells O (Each (Each T)) (IsNodeSet T) (each_of (λ n. step_from step n R values c) nodes) _
+      (each_tells O T (Each T) (λ n. step_from step n R values c) nodes a (λ n t. step_from_sound step k n t R values c g))
       (λ lists b. ordered_set T (joined lists) (joined_each T lists b))
 
   pub steps_nodes_sound : (steps : List MeantStep) → Each (StepSound T O) steps → (nodes : List ℕ) → IsNodeSet T nodes → Sound T O (IsNodeSet T) (steps_nodes steps nodes)
@@ -89,14 +91,16 @@ module _ (T O : Rows) where
   pub tested_sound : (predicates : List Meant) → Each (MeantSound T O) predicates → (counts : List ℕ) (n : ℕ) → T n → Sound T O Anything (tested predicates counts n)
   tested_sound [] k counts n t R values c g = tt
   tested_sound (predicate ∷ predicates) k counts n t R values c g =
-      bind_tells O Anything Anything _ _ (holds_sound T O predicate k.0 R values (at_node c size.Unasked (suc (first_count counts)) n) (at_given T O R values c size.Unasked (suc (first_count counts)) n t g))
+      bind_tells O Anything Anything _ _
+      (holds_sound T O predicate k.0 R values (at_node c size.Unasked (suc (first_count counts)) n) (at_given T O R values c size.Unasked (suc (first_count counts)) n t g))
       (λ here a. on_told here (suc (first_count counts)) (later_counts counts) _ (tested_sound predicates k.1 (later_counts counts) n t R values c g))
 
   if_flows : (b : Bool) (s : Stream) → Flows T O s → Flows T O (if_passed b s)
   if_flows true s f = f
   if_flows false s f = record { items = tt; ending = tt }
 
-  through_flows : (predicates : List Meant) → Each (MeantSound T O) predicates → (inside : ℕ → Stream) → ((n : ℕ) → T n → Flows T O (inside n)) → (counts ns : List ℕ) → Each T ns → (ending : Ending) → EndsAt O ending → SoundItems T O (through predicates inside counts ns ending)
+  through_flows : (predicates : List Meant) → Each (MeantSound T O) predicates → (inside : ℕ → Stream) → ((n : ℕ) → T n → Flows T O (inside n)) → (counts ns : List ℕ) → Each T ns
+      → (ending : Ending) → EndsAt O ending → SoundItems T O (through predicates inside counts ns ending)
   through_flows predicates k inside f counts [] a ending e R values c g = record { items = tt; ending = e }
   through_flows predicates k inside f counts (n ∷ ns) a ending e R values c g =
       stream_flows O T Anything (tested predicates counts n R values c) _ (tested_sound predicates k counts n a.0 R values c g)

@@ -30,7 +30,8 @@ nodes_last (Known lists) = refl
 nodes_last (Fault f) = refl
 nodes_last (Open m) = refl
 
-once_whole : (w : Outcome (Unit {0})) (o : Outcome (List (List ℕ))) → (w >>= λ shut. o >>= λ lists. Known (Nodes (document_order (joined lists)))) ≡ ((w >>= λ shut. o >>= λ lists. Known (document_order (joined lists))) >>= λ nodes. Known (Nodes nodes))
+once_whole : (w : Outcome (Unit {0})) (o : Outcome (List (List ℕ)))
+    → (w >>= λ shut. o >>= λ lists. Known (Nodes (document_order (joined lists)))) ≡ ((w >>= λ shut. o >>= λ lists. Known (document_order (joined lists))) >>= λ nodes. Known (Nodes nodes))
 once_whole (Known shut) o = nodes_last o
 once_whole (Fault f) o = refl
 once_whole (Open m) o = refl
@@ -44,7 +45,8 @@ looked_is R finds texts = once_whole R.whole (each_of finds texts)
 abbrev pub finding : (List ℕ → Outcome (List ℕ)) → List (List ℕ) → List ℕ → Outcome (List ℕ)
 finding finds texts nodes = each_of finds texts >>= λ lists. Known (document_order (nodes ++ joined lists))
 
-finds_one : (a : Outcome (List ℕ)) (o : Outcome (List (List ℕ))) (nodes : List ℕ) → ((a >>= λ y. o >>= λ ys. Known (y ∷ ys)) >>= λ lists. Known (document_order (nodes ++ joined lists))) ≡ (a >>= λ y. o >>= λ lists. Known (document_order ((nodes ++ y) ++ joined lists)))
+finds_one : (a : Outcome (List ℕ)) (o : Outcome (List (List ℕ))) (nodes : List ℕ)
+    → ((a >>= λ y. o >>= λ ys. Known (y ∷ ys)) >>= λ lists. Known (document_order (nodes ++ joined lists))) ≡ (a >>= λ y. o >>= λ lists. Known (document_order ((nodes ++ y) ++ joined lists)))
 finds_one (Known y) (Known ys) nodes = ap (λ ns. Known (document_order ns)) (sym (append_assoc nodes y (joined ys)))
 finds_one (Known y) (Fault f) nodes = refl
 finds_one (Known y) (Open m) nodes = refl
@@ -60,11 +62,15 @@ pub find_ends : (finds : List ℕ → Outcome (List ℕ)) (texts : List (List �
 find_ends finds texts i nodes h = ap (λ left. finding finds left nodes) (no_rest texts i h) ∙ ap (λ ns. Known (document_order ns)) (append-nil nodes)
 
 -- what a look-up says, in the words of the source at the beginning and of the string itself
-pub told_id : {M N : Type 0} {s t : Seen M} {made now : Made N} {id text : List ℕ} {result : Result (List ℕ) EvalStop} → now ≡ made → text ≡ id → Says now.lookups (λ R. R.by_id text) s t result → Says made.lookups (λ R. R.by_id id) s t result
-told_id {s = s} {t} {made} {now} {id} {text} {result} e h a = subst (λ (m : Made _). Says m.lookups (λ R. R.by_id id) s t result) e (subst (λ (x : List ℕ). Says now.lookups (λ R. R.by_id x) s t result) h a)
+pub told_id : {M N : Type 0} {s t : Seen M} {made now : Made N} {id text : List ℕ} {result : Result (List ℕ) EvalStop} → now ≡ made → text ≡ id
+    → Says now.lookups (λ R. R.by_id text) s t result → Says made.lookups (λ R. R.by_id id) s t result
+told_id {s = s} {t} {made} {now} {id} {text} {result} e h a =
+    subst (λ (m : Made _). Says m.lookups (λ R. R.by_id id) s t result) e (subst (λ (x : List ℕ). Says now.lookups (λ R. R.by_id x) s t result) h a)
 
-pub told_key : {M N : Type 0} {s t : Seen M} {made now : Made N} {key : ℕ} {value text : List ℕ} {result : Result (List ℕ) EvalStop} → now ≡ made → text ≡ value → Says now.lookups (λ R. R.by_key key text) s t result → Says made.lookups (λ R. R.by_key key value) s t result
-told_key {s = s} {t} {made} {now} {key} {value} {text} {result} e h a = subst (λ (m : Made _). Says m.lookups (λ R. R.by_key key value) s t result) e (subst (λ (x : List ℕ). Says now.lookups (λ R. R.by_key key x) s t result) h a)
+pub told_key : {M N : Type 0} {s t : Seen M} {made now : Made N} {key : ℕ} {value text : List ℕ} {result : Result (List ℕ) EvalStop} → now ≡ made → text ≡ value
+    → Says now.lookups (λ R. R.by_key key text) s t result → Says made.lookups (λ R. R.by_key key value) s t result
+told_key {s = s} {t} {made} {now} {key} {value} {text} {result} e h a =
+    subst (λ (m : Made _). Says m.lookups (λ R. R.by_key key value) s t result) e (subst (λ (x : List ℕ). Says now.lookups (λ R. R.by_key key x) s t result) h a)
 
 -- ---- words
 
@@ -85,7 +91,8 @@ onto_none : (text : List ℕ) → onto [] (slice_split is_space text) ≡ slice_
 onto_none [] = refl
 onto_none (byte ∷ bytes) = by (is_space byte)
   where
-    by : (b : Bool) → onto [] (cond b ([] ∷ slice_split is_space bytes) (onto_first byte (slice_split is_space bytes))) ≡ cond b ([] ∷ slice_split is_space bytes) (onto_first byte (slice_split is_space bytes))
+    by : (b : Bool) → onto [] (cond b ([] ∷ slice_split is_space bytes) (onto_first byte (slice_split is_space bytes)))
+        ≡ cond b ([] ∷ slice_split is_space bytes) (onto_first byte (slice_split is_space bytes))
     by true = refl
     by false = onto_more [] byte (slice_split is_space bytes) ∙ onto_one byte (slice_split is_space bytes)
 
@@ -113,7 +120,8 @@ word_turn word byte bytes = by (is_space byte)
         ∙ ap (λ left. filter is_word (word ∷ []) ++ filter is_word left) (sym (onto_none bytes))
     by false = ap (filter is_word) (onto_more word byte (slice_split is_space bytes))
 
-pub words_turn : (all all_now : List (List ℕ)) (text : List ℕ) (i byte : ℕ) (word word_now : List ℕ) → i < length text → byte ≡ get_or text i 0 → all_now ≡ all ++ words_ended word byte → word_now ≡ word_after word byte
+pub words_turn : (all all_now : List (List ℕ)) (text : List ℕ) (i byte : ℕ) (word word_now : List ℕ) → i < length text → byte ≡ get_or text i 0
+    → all_now ≡ all ++ words_ended word byte → word_now ≡ word_after word byte
     → all_now ++ words_left word_now (drop (i + 1) text) ≡ all ++ words_left word (drop i text)
 words_turn all all_now text i byte word word_now h b e w =
     ap (λ a. a ++ words_left word_now (drop (i + 1) text)) e

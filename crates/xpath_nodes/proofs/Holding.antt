@@ -34,7 +34,8 @@ value_on p q (Fragment events) g a = tt
 pub there_on : {M : Type 0} (s t : Seen M) (n : ℕ) → Moves s t → IsThere s.rules s.steps n → IsThere t.rules t.steps n
 there_on s t n m w =
     let r = prefix_rows s.steps t.steps m.grows in
-    subst (λ rules. IsThere rules t.steps n) (sym m.rules_stay) (joined_grows s.steps t.steps n m.grows w.0, ap (λ rows. is_visible s.rules rows n) r.1 ∙ visible_grows s.rules (rows_of s.steps) (r.0) n w.0 ∙ w.1)
+    subst (λ rules. IsThere rules t.steps n) (sym m.rules_stay)
+    (joined_grows s.steps t.steps n m.grows w.0, ap (λ rows. is_visible s.rules rows n) r.1 ∙ visible_grows s.rules (rows_of s.steps) (r.0) n w.0 ∙ w.1)
 
 pub all_there_on : {M : Type 0} (s t : Seen M) (ns : List ℕ) → Moves s t → Each (IsThere s.rules s.steps) ns → Each (IsThere t.rules t.steps) ns
 all_there_on s t ns m a = each_weaker (IsThere s.rules s.steps) (IsThere t.rules t.steps) ns (λ n w. there_on s t n m w) a

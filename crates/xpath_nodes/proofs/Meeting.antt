@@ -53,14 +53,16 @@ meeting_none (Open m) none e = refl
 pub meeting_starts : (op : Op) (R : Reading) (a : AnyAtom) (ns : List ℕ) (none : List AnyAtom) → none ≡ [] → none_met op R a ns ≡ meeting op R a (drop 0 ns) none
 meeting_starts op R a ns none e = meeting_none (none_met op R a ns) none e
 
-meeting_behind : (p : Outcome (Option (List AnyAtom))) (b : AnyAtom) (atoms : List AnyAtom) → ((p >>= λ rest. Known (behind b rest)) >>= λ rest. Known (with_atoms atoms rest)) ≡ (p >>= λ rest. Known (with_atoms (atoms ++ b ∷ []) rest))
+meeting_behind : (p : Outcome (Option (List AnyAtom))) (b : AnyAtom) (atoms : List AnyAtom)
+    → ((p >>= λ rest. Known (behind b rest)) >>= λ rest. Known (with_atoms atoms rest)) ≡ (p >>= λ rest. Known (with_atoms (atoms ++ b ∷ []) rest))
 meeting_behind (Known None) b atoms = refl
 meeting_behind (Known (Some rest)) b atoms = ap (λ all. Known (Some all)) (sym (append_assoc atoms (b ∷ []) rest))
 meeting_behind (Fault f) b atoms = refl
 meeting_behind (Open m) b atoms = refl
 
 meeting_here : (here : Outcome Bool) (p : Outcome (Option (List AnyAtom))) (b : AnyAtom) (atoms : List AnyAtom)
-    → ((here >>= λ here. cond here (Known None) (p >>= λ rest. Known (behind b rest))) >>= λ rest. Known (with_atoms atoms rest)) ≡ (here >>= λ here. cond here (Known None) (p >>= λ rest. Known (with_atoms (atoms ++ b ∷ []) rest)))
+    → ((here >>= λ here. cond here (Known None) (p >>= λ rest. Known (behind b rest))) >>= λ rest. Known (with_atoms atoms rest))
+    ≡ (here >>= λ here. cond here (Known None) (p >>= λ rest. Known (with_atoms (atoms ++ b ∷ []) rest)))
 meeting_here (Known true) p b atoms = refl
 meeting_here (Known false) p b atoms = meeting_behind p b atoms
 meeting_here (Fault f) p b atoms = refl

@@ -84,14 +84,16 @@ met_behind b (Known (Some atoms)) = refl
 met_behind b (Fault f) = refl
 met_behind b (Open m) = refl
 
-met_here : (b : AnyAtom) (o q : Outcome Bool) (p : Outcome (Option (List AnyAtom))) → q ≡ (p >>= λ left. Known (met left)) → (o >>= λ here. cond here (Known true) q) ≡ ((o >>= λ here. cond here (Known None) (p >>= λ rest. Known (behind b rest))) >>= λ left. Known (met left))
+met_here : (b : AnyAtom) (o q : Outcome Bool) (p : Outcome (Option (List AnyAtom))) → q ≡ (p >>= λ left. Known (met left))
+    → (o >>= λ here. cond here (Known true) q) ≡ ((o >>= λ here. cond here (Known None) (p >>= λ rest. Known (behind b rest))) >>= λ left. Known (met left))
 met_here b (Known true) q p e = refl
 met_here b (Known false) q p e = e ∙ met_behind b p
 met_here b (Fault f) q p e = refl
 met_here b (Open m) q p e = refl
 
 met_at : (op : Op) (a : List ℕ) (o : Outcome (List ℕ)) (q : Outcome Bool) (p : Outcome (Option (List AnyAtom))) → q ≡ (p >>= λ left. Known (met left))
-    → ((o >>= λ b. compare_atoms op (Text a) (Text b)) >>= λ here. cond here (Known true) q) ≡ (((o >>= λ bytes. Known (Text bytes)) >>= λ b. compare_atoms op (Text a) b >>= λ here. cond here (Known None) (p >>= λ rest. Known (behind b rest))) >>= λ left. Known (met left))
+    → ((o >>= λ b. compare_atoms op (Text a) (Text b)) >>= λ here. cond here (Known true) q)
+    ≡ (((o >>= λ bytes. Known (Text bytes)) >>= λ b. compare_atoms op (Text a) b >>= λ here. cond here (Known None) (p >>= λ rest. Known (behind b rest))) >>= λ left. Known (met left))
 met_at op a (Known bytes) q p e = met_here (Text bytes) (compare_atoms op (Text a) (Text bytes)) q p e
 met_at op a (Fault f) q p e = refl
 met_at op a (Open m) q p e = refl
@@ -129,7 +131,8 @@ pairs_from op R n ns right l =
 abbrev pub TellsRight : Reading → List ℕ → List AnyAtom → Type 0
 TellsRight R right atoms = each_of (atom_of R) right ≡ Known atoms
 
-kept_here : (b : AnyAtom) (o : Outcome Bool) (p : Outcome (Option (List AnyAtom))) (atoms : List AnyAtom) → (o >>= λ here. cond here (Known None) (p >>= λ rest. Known (behind b rest))) ≡ Known (Some atoms)
+kept_here : (b : AnyAtom) (o : Outcome Bool) (p : Outcome (Option (List AnyAtom))) (atoms : List AnyAtom)
+    → (o >>= λ here. cond here (Known None) (p >>= λ rest. Known (behind b rest))) ≡ Known (Some atoms)
     → (rest : List AnyAtom) × (p ≡ Known (Some rest)) × (atoms ≡ b ∷ rest)
 kept_here b (Known true) p atoms e = cc
 kept_here b (Known false) (Known None) atoms e = cc
@@ -146,7 +149,8 @@ kept_right op R a (k ∷ ks) atoms e =
     let h = kept_here p.0 (compare_atoms op a p.0) (none_met op R a ks) atoms p.2 in
     ap (λ o. o >>= λ y. each_of (atom_of R) ks >>= λ ys. Known (y ∷ ys)) p.1 ∙ ap (λ o. o >>= λ ys. Known (p.0 ∷ ys)) (kept_right op R a ks h.0 h.1) ∙ ap Known (sym h.2)
 
-tells_parts : (R : Reading) (k : ℕ) (ks : List ℕ) (atoms : List AnyAtom) → TellsRight R (k ∷ ks) atoms → (b : AnyAtom) × (rest : List AnyAtom) × (atom_of R k ≡ Known b) × TellsRight R ks rest × (atoms ≡ b ∷ rest)
+tells_parts : (R : Reading) (k : ℕ) (ks : List ℕ) (atoms : List AnyAtom) → TellsRight R (k ∷ ks) atoms
+    → (b : AnyAtom) × (rest : List AnyAtom) × (atom_of R k ≡ Known b) × TellsRight R ks rest × (atoms ≡ b ∷ rest)
 tells_parts R k ks atoms e =
     let p = known_parts (atom_of R k) (λ y. each_of (atom_of R) ks >>= λ ys. Known (y ∷ ys)) atoms e in
     let q = known_parts (each_of (atom_of R) ks) (λ ys. Known (p.0 ∷ ys)) atoms p.2 in
@@ -165,12 +169,14 @@ row_known op R a (k ∷ ks) atoms e =
     ∙ ap (λ rest. compare_atoms op (Text a) p.0 >>= λ here. cond here (Known true) rest) (row_known op R a ks p.1 p.3)
     ∙ ap (meets_some op (Text a)) (sym p.4)
 
-row_other : (op : Op) (R : Reading) (o : Outcome (List ℕ)) (right : List ℕ) (atoms : List AnyAtom) → 0 < length right → TellsRight R right atoms → row op R o right ≡ ((o >>= λ bytes. Known (Text bytes)) >>= λ a. meets_some op a atoms)
+row_other : (op : Op) (R : Reading) (o : Outcome (List ℕ)) (right : List ℕ) (atoms : List AnyAtom) → 0 < length right → TellsRight R right atoms
+    → row op R o right ≡ ((o >>= λ bytes. Known (Text bytes)) >>= λ a. meets_some op a atoms)
 row_other op R (Known a) right atoms l e = row_known op R a right atoms e
 row_other op R (Fault f) right atoms l e = row_stops_fault op R f right l
 row_other op R (Open m) right atoms l e = row_stops_open op R m right l
 
-pub pairs_other : (op : Op) (R : Reading) (ns right : List ℕ) (atoms : List AnyAtom) → 0 < length right → TellsRight R right atoms → some_holds (compare_pair op R) (pairs ns right) ≡ some_meets op R atoms ns
+pub pairs_other : (op : Op) (R : Reading) (ns right : List ℕ) (atoms : List AnyAtom) → 0 < length right → TellsRight R right atoms
+    → some_holds (compare_pair op R) (pairs ns right) ≡ some_meets op R atoms ns
 pairs_other op R [] right atoms l e = refl
 pairs_other op R (n ∷ ns) right atoms l e =
     some_append (compare_pair op R) (map (λ k. (n, k)) right) (pairs ns right)

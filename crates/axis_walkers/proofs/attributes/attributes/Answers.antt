@@ -31,7 +31,8 @@ overflow_add-k-end-2 g c =
     omega (arith, w, c.attr_count-count.ensures.value, c.attr_count-count.ensures.moves.seen.lawful.few)
 
 pub loop-k-init : goal.loop-k-init
-loop-k-init g c = Walks.among_begins c.new-found.result.met c.new-found.result.rows _ _ c.args.n (c.args.n + 1) c.attr_count-count.result c.args.test.now (record { none = c.new-found.ensures.met; empty = c.new-found.ensures.rows }) c.requires c.attr_count-count.ensures.moves (omega arith) c.attr_count-count.ensures.value
+loop-k-init g c = Walks.among_begins c.new-found.result.met c.new-found.result.rows _ _ c.args.n (c.args.n + 1) c.attr_count-count.result c.args.test.now
+    (record { none = c.new-found.ensures.met; empty = c.new-found.ensures.rows }) c.requires c.attr_count-count.ensures.moves (omega arith) c.attr_count-count.ensures.value
 
 pub offer-requires-clause-joined : goal.offer-requires-clause-joined
 offer-requires-clause-joined g c = omega (arith, Walks.among_within _ _ c.args.n c.args.test.now c.loop-k.k _ _ _ c.loop-k.invariant)
@@ -46,10 +47,12 @@ pub returns-in_err-offer-clause-moves : goal.returns-in_err-offer-clause-moves
 returns-in_err-offer-clause-moves g c = moves_on _ _ _ c.loop-k.invariant.goes.moved c.offer.ensures.moves
 
 pub returns-in_err-offer-clause-answers : goal.returns-in_err-offer-clause-answers
-returns-in_err-offer-clause-answers g c = Loops.out_of_memory (g.V.NodeView.sees c.args.view.now) (g.V.NodeView.sees c.offer.new.view) c.args.n axis.Attribute c.args.test.now c.from_residual.result c.from_residual.ensures.1
+returns-in_err-offer-clause-answers g c =
+    Loops.out_of_memory (g.V.NodeView.sees c.args.view.now) (g.V.NodeView.sees c.offer.new.view) c.args.n axis.Attribute c.args.test.now c.from_residual.result c.from_residual.ensures.1
 
 pub loop-k-preserved : goal.loop-k-preserved
-loop-k-preserved g c = Walks.among_takes _ _ _ c.args.n c.args.test.now c.loop-k.k (c.loop-k.k + 1) c.attr_count-count.result _ _ _ _ c.loop-k.invariant (omega arith) (omega arith) (omega arith) c.offer.ensures.moves c.offer.ensures.met c.in_ok-offer.ensures.rows
+loop-k-preserved g c = Walks.among_takes _ _ _ c.args.n c.args.test.now c.loop-k.k (c.loop-k.k + 1) c.attr_count-count.result _ _ _ _ c.loop-k.invariant (omega arith) (omega arith)
+    (omega arith) c.offer.ensures.moves c.offer.ensures.met c.in_ok-offer.ensures.rows
 
 pub returns-clause-moves : goal.returns-clause-moves
 returns-clause-moves g c = c.loop-k.invariant.goes.moved

@@ -24,5 +24,6 @@ returns-else-is_kind-2-clause-value g c =
     let visible = is_visible s.rules (rows_of s.steps) c.args.k in
     let wanted = sym (ap (λ x. meets Element x (row_at (rows_of old.steps) c.args.k)) c.in-Kind.is) ∙ c.requires.meets in
     let same = kind_same c.in-Kind.kind (row_at (rows_of old.steps) c.args.k).kind wanted in
-    let plain = ap (λ (r : Row). is_attribute r.kind) (row_later _ _ c.args.k c.shown-in-Kind.ensures.moves.grows c.requires.joined) ∙ ap is_attribute (sym same) ∙ sym c.is_kind-in-Kind.ensures ∙ c.if-is_kind-2.false in
+    let plain = ap (λ (r : Row). is_attribute r.kind) (row_later _ _ c.args.k c.shown-in-Kind.ensures.moves.grows c.requires.joined) ∙ ap is_attribute (sym same)
+    ∙ sym c.is_kind-in-Kind.ensures ∙ c.if-is_kind-2.false in
     c.shown-in-Kind.ensures.value ∙ sym (ap (λ b. visible && not b) plain ∙ and_true visible)

@@ -7,7 +7,8 @@ use Rattle.axis_walkers.proofs.siblings.following_siblings.Given as goal
 
 abbrev pub invariant-walk : goal.invariant-walk
 invariant-walk g l = record {
-  past : IsPast (g.V.NodeView.sees l.fn.view) (g.V.NodeView.sees l.view) l.n axis.FollowingSibling l.test (sibling_parent (rows_of (g.V.NodeView.sees l.fn.view).steps) l.n) l.at l.found.met l.found.rows;
+  past : IsPast (g.V.NodeView.sees l.fn.view) (g.V.NodeView.sees l.view) l.n axis.FollowingSibling l.test
+      (sibling_parent (rows_of (g.V.NodeView.sees l.fn.view).steps) l.n) l.at l.found.met l.found.rows;
   order : l.n ≤ l.at;
 }
 

@@ -8,5 +8,8 @@ use Rattle.cmd_words.proofs.item.items.Goals as goal
 pub returns : goal.returns
 returns c =
     let collected : IfOk c.collect.result (λ items. items.items ≡ items_of c.args.readers c.args.list.now) =
-    items_from_collect _ c.collect.ensures.ran (YieldsList-from_filter_map _ (item_of c.args.readers) (YieldsList-at c.filter_map.ensures.source (YieldsList-from_str_split 44 c.args.list.now (lit< tt) c.split.ensures.text c.split.ensures.has_more c.split.ensures.pattern)) c.filter_map.ensures.closure (λ x r q k. search (rules, tests)))
+    items_from_collect _ c.collect.ensures.ran
+    (YieldsList-from_filter_map _ (item_of c.args.readers)
+    (YieldsList-at c.filter_map.ensures.source
+    (YieldsList-from_str_split 44 c.args.list.now (lit< tt) c.split.ensures.text c.split.ensures.has_more c.split.ensures.pattern)) c.filter_map.ensures.closure (λ x r q k. search (rules, tests)))
     in c.from_vec.ensures ∙ (rw c.in_ok-items.was at collected)

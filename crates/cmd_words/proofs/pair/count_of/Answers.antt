@@ -10,6 +10,8 @@ use Rattle.cmd_words.proofs.pair.count_of.Goals as goal
 
 pub returns : goal.returns
 returns c =
-    count_from_yields_List _ _ c.count.ensures.ran (YieldsList-from_filter _ (λ word. bytes_eq c.args.out.now (after_first is_equals (string_bytes word))) (YieldsList-at c.filter.ensures.source (YieldsList-from_slice c.args.words.now (cc))) c.filter.ensures.closure (λ x b q k. search (rules, tests)))
+    count_from_yields_List _ _ c.count.ensures.ran
+    (YieldsList-from_filter _ (λ word. bytes_eq c.args.out.now (after_first is_equals (string_bytes word)))
+    (YieldsList-at c.filter.ensures.source (YieldsList-from_slice c.args.words.now (cc))) c.filter.ensures.closure (λ x b q k. search (rules, tests)))
     ∙ length-filter _ c.args.words.now
     ∙ sym (count_by-map (bytes_eq c.args.out.now) (after_first is_equals) (map string_bytes c.args.words.now) ∙ count_by-map _ string_bytes c.args.words.now)

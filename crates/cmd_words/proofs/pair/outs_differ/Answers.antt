@@ -9,5 +9,6 @@ use Rattle.cmd_words.proofs.pair.outs_differ.Goals as goal
 
 pub returns : goal.returns
 returns c =
-    all_from_yields_List (λ word. count_by (bytes_eq (after_first is_equals (string_bytes word))) (outs_of (map string_bytes c.args.words.now)) == 1) _ _ _ c.all.ensures.ran (YieldsList-from_slice c.args.words.now (cc)) (λ x b q k. search (rules, tests))
+    all_from_yields_List (λ word. count_by (bytes_eq (after_first is_equals (string_bytes word))) (outs_of (map string_bytes c.args.words.now)) == 1) _ _ _ c.all.ensures.ran
+    (YieldsList-from_slice c.args.words.now (cc)) (λ x b q k. search (rules, tests))
     ∙ sym (list_all-map _ (after_first is_equals) (map string_bytes c.args.words.now) ∙ list_all-map _ string_bytes c.args.words.now)

@@ -17,7 +17,8 @@ loop-pair-preserved g c =
 
 pub returns-clause-all : goal.returns-clause-all
 returns-clause-all g c =
-    let end = zip_end c.args.pairs.now c.args.outcomes.now c.loop-pair.yielded c.into_iter-pair-iterator.result c.loop-pair.pair-iterator c.next.new.self c.next.result (search rules) (search rules) c.loop-pair.yielded_by c.in-None.is c.next.ensures.steps in
+    let end = zip_end c.args.pairs.now c.args.outcomes.now c.loop-pair.yielded c.into_iter-pair-iterator.result c.loop-pair.pair-iterator c.next.new.self c.next.result
+    (search rules) (search rules) c.loop-pair.yielded_by c.in-None.is c.next.ensures.steps in
     let done = zip_done c.args.pairs.now c.args.outcomes.now _ end in
     let i = c.loop-pair.invariant.puts in
     subst (Grows (g.O.Drawer.puts c.args.drawer.now) (g.O.Drawer.puts c.loop-pair.drawer)) (sym (append-nil i.0) ∙ sym (rw done at i.1.0)) i.1.1

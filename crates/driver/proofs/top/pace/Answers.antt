@@ -20,7 +20,8 @@ returns-in-Err-NoPlan-clause-answers g c =
 
 pub returns-in-Err-Memory-clause-answers : goal.returns-in-Err-Memory-clause-answers
 returns-in-Err-Memory-clause-answers g c =
-    let plan = some_plan (plan_of (map string_bytes c.args.words.now)) (λ none. let is = c.plan.ensures.no_plan.1 none in let memory = c.in-Err-Memory.is in let field = c.in-Err-Memory.field-0-is in cc) in
+    let plan = some_plan (plan_of (map string_bytes c.args.words.now))
+    (λ none. let is = c.plan.ensures.no_plan.1 none in let memory = c.in-Err-Memory.is in let field = c.in-Err-Memory.field-0-is in cc) in
     record {
       due = memory_answer;
       cause = inr (plan.0, (plan.1, inr (inr refl)));

@@ -25,8 +25,13 @@ returns-in-Ended-clause-made g c =
     let early : (bytes : List ℕ) → left ≡ Some bytes → string_bytes c.play_turns.new.said ≡ progress_text (early_runs c.args.limits c.args.plan.now bytes) =
     λ bytes is. early_text c.args.limits c.args.plan.now bytes c.as_slice.result.now _ _ c.new-said.ensures.bytes items
     (e.said c.args.limits bytes (subst (λ l. IsAt c.in_ok-session.session c.args.limits (Some bytes) l 0) (sym is) (begun (Some bytes))) (subst TellsAll (sym c.in-Ended.is) tt)) in
-    IfOk-both c.finish.result _ _ _ (rw c.as_slice-in-Ended.ensures at c.finish.ensures.outcomes) (rw c.as_slice-in-Ended.ensures at c.finish.ensures.said) (λ made outcomes said.
-    (_, (judged_made c.args.limits c.args.plan.now left _ e.leaves.0 _ _ made.outcomes _ _ c.in-Ended.is found early outcomes refl, (said, quiet (length c.args.plan.now.pairs) (steps_of_session c.play_turns.new.session) made.outcomes outcomes))))
+    IfOk-both c.finish.result _ _ _ (rw c.as_slice-in-Ended.ensures at c.finish.ensures.outcomes) (rw c.as_slice-in-Ended.ensures at c.finish.ensures.said) (λ made outcomes said. (
+      _,
+      (
+        judged_made c.args.limits c.args.plan.now left _ e.leaves.0 _ _ made.outcomes _ _ c.in-Ended.is found early outcomes refl,
+        (said, quiet (length c.args.plan.now.pairs) (steps_of_session c.play_turns.new.session) made.outcomes outcomes),
+      ),
+    ))
 
 pub returns-in-Flawed-clause-flawed : goal.returns-in-Flawed-clause-flawed
 returns-in-Flawed-clause-flawed g c = λ said is.

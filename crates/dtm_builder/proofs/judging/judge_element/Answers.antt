@@ -40,7 +40,8 @@ returns-in-Some-clause-flaw c given cells s n =
     let first = at_first events node (sym w.ensures.value ∙ ap (λ (x : Event). Some x) w.field-0-is) in
     let is : is_element w.row.kind ≡ true = sym c.is_element.ensures ∙ c.if-not-is_element.false in
     let rows = rows_first events first.0 w.row w.attributes w.field-0-2 w.field-0-3 w.line first.1 is in
-    let added : AddsNames (rows_of cells.steps) (w.row ∷ w.attributes) c.new_names.result = subst (λ (more : List Row). AddsNames (rows_of cells.steps) (w.row ∷ more) c.new_names.result) c.as_slice.ensures (c.new_names.ensures given cells s) in
+    let added : AddsNames (rows_of cells.steps) (w.row ∷ w.attributes) c.new_names.result =
+    subst (λ (more : List Row). AddsNames (rows_of cells.steps) (w.row ∷ more) c.new_names.result) c.as_slice.ensures (c.new_names.ensures given cells s) in
     let all = table_names (rows_of cells.steps ++ w.row ∷ w.attributes) in
     let count : IsCount c.with-all.result all = c.with-all.ensures (table_names (rows_of cells.steps)) all n (adds_of (rows_of cells.steps) (w.row ∷ w.attributes) c.new_names.result added) in
     let kind : names_flaw c.args.limits.now all c.args.values ≡ Some c.in-Some.kind = sym (c.flaw.ensures all count) ∙ c.in-Some.is in
@@ -56,7 +57,8 @@ returns-in-None-clause-good c given cells s n =
     let first = at_first events node (sym w.ensures.value ∙ ap (λ (x : Event). Some x) w.field-0-is) in
     let is : is_element w.row.kind ≡ true = sym c.is_element.ensures ∙ c.if-not-is_element.false in
     let rows = rows_first events first.0 w.row w.attributes w.field-0-2 w.field-0-3 w.line first.1 is in
-    let added : AddsNames (rows_of cells.steps) (w.row ∷ w.attributes) c.new_names.result = subst (λ (more : List Row). AddsNames (rows_of cells.steps) (w.row ∷ more) c.new_names.result) c.as_slice.ensures (c.new_names.ensures given cells s) in
+    let added : AddsNames (rows_of cells.steps) (w.row ∷ w.attributes) c.new_names.result =
+    subst (λ (more : List Row). AddsNames (rows_of cells.steps) (w.row ∷ more) c.new_names.result) c.as_slice.ensures (c.new_names.ensures given cells s) in
     let all = table_names (rows_of cells.steps ++ w.row ∷ w.attributes) in
     let count : IsCount c.with-all.result all = c.with-all.ensures (table_names (rows_of cells.steps)) all n (adds_of (rows_of cells.steps) (w.row ∷ w.attributes) c.new_names.result added) in
     let kind : names_flaw c.args.limits.now all c.args.values ≡ None = sym (c.flaw.ensures all count) ∙ c.in-None.is in
@@ -72,7 +74,8 @@ returns-in-None-clause-names c given cells s n =
     let first = at_first events node (sym w.ensures.value ∙ ap (λ (x : Event). Some x) w.field-0-is) in
     let is : is_element w.row.kind ≡ true = sym c.is_element.ensures ∙ c.if-not-is_element.false in
     let rows = rows_first events first.0 w.row w.attributes w.field-0-2 w.field-0-3 w.line first.1 is in
-    let added : AddsNames (rows_of cells.steps) (w.row ∷ w.attributes) c.new_names.result = subst (λ (more : List Row). AddsNames (rows_of cells.steps) (w.row ∷ more) c.new_names.result) c.as_slice.ensures (c.new_names.ensures given cells s) in
+    let added : AddsNames (rows_of cells.steps) (w.row ∷ w.attributes) c.new_names.result =
+    subst (λ (more : List Row). AddsNames (rows_of cells.steps) (w.row ∷ more) c.new_names.result) c.as_slice.ensures (c.new_names.ensures given cells s) in
     let all = table_names (rows_of cells.steps ++ w.row ∷ w.attributes) in
     let count : IsCount c.with-all.result all = c.with-all.ensures (table_names (rows_of cells.steps)) all n (adds_of (rows_of cells.steps) (w.row ∷ w.attributes) c.new_names.result added) in
     subst (λ (more : List Row). IsCount c.with-all.result (table_names (rows_of cells.steps ++ more))) (sym rows) count

@@ -13,7 +13,9 @@ pub returns-then-is_new_name : goal.returns-then-is_new_name
 returns-then-is_new_name c limits cells s =
     let rows = rows_of cells.steps in
     let target = c.in-Instruction.target in
-    let new : has_new_name rows (instruction_row 0 target []) ≡ true = ap (λ (text : List ℕ). not (is_name_of (record { kind = Instruction; uri = []; local = text }) (names_of rows))) (sym c.as_slice.ensures) ∙ sym (c.is_new_name.ensures limits cells s) ∙ c.if-is_new_name.true in
+    let new : has_new_name rows (instruction_row 0 target []) ≡ true =
+    ap (λ (text : List ℕ). not (is_name_of (record { kind = Instruction; uri = []; local = text }) (names_of rows))) (sym c.as_slice.ensures)
+    ∙ sym (c.is_new_name.ensures limits cells s) ∙ c.if-is_new_name.true in
     subst (λ (line : Line). AddsNames rows (own_rows line) (record { count = 1; bytes = c.len.result })) (sym c.in-Instruction.is)
     (target_new rows target c.len.result new c.len.ensures c.len.type_inv)
 
@@ -21,5 +23,7 @@ pub returns-else-is_new_name : goal.returns-else-is_new_name
 returns-else-is_new_name c limits cells s =
     let rows = rows_of cells.steps in
     let target = c.in-Instruction.target in
-    let new : has_new_name rows (instruction_row 0 target []) ≡ false = ap (λ (text : List ℕ). not (is_name_of (record { kind = Instruction; uri = []; local = text }) (names_of rows))) (sym c.as_slice.ensures) ∙ sym (c.is_new_name.ensures limits cells s) ∙ c.if-is_new_name.false in
+    let new : has_new_name rows (instruction_row 0 target []) ≡ false =
+    ap (λ (text : List ℕ). not (is_name_of (record { kind = Instruction; uri = []; local = text }) (names_of rows))) (sym c.as_slice.ensures)
+    ∙ sym (c.is_new_name.ensures limits cells s) ∙ c.if-is_new_name.false in
     subst (λ (line : Line). AddsNames rows (own_rows line) (record { count = 0; bytes = 0 })) (sym c.in-Instruction.is) (target_known rows target new)

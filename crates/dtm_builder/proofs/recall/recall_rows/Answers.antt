@@ -41,4 +41,5 @@ loop-at-preserved c uris recalls are =
 pub returns-clause-found : goal.returns-clause-found
 returns-clause-found c uris recalls are =
     let rows : List Row = c.args.row.now ∷ c.args.attributes.now in
-    subst (λ (all : List Row). AreFound (names_in c.args.writer.now) all c.loop-at.found) (take_all c.loop-at.at rows (omega (arith, c.loop-at-test.false, c.requires))) (c.loop-at.invariant uris recalls are).1
+    subst (λ (all : List Row). AreFound (names_in c.args.writer.now) all c.loop-at.found) (take_all c.loop-at.at rows (omega (arith, c.loop-at-test.false, c.requires)))
+    (c.loop-at.invariant uris recalls are).1

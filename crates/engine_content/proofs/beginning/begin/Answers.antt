@@ -20,12 +20,14 @@ text_of-requires-in-Instruction g c = joined_grows _ _ c.args.k c.name_of-in-Ins
 
 pub returns-in-Root-clause-value : goal.returns-in-Root-clause-value
 returns-in-Root-clause-value g c =
-    let is = beginning_is (g.V.NodeView.sees c.args.view.now).steps (g.V.NodeView.sees c.told.new.self).steps c.args.k c.args.kind kind.Root c.told.ensures.grows c.requires.joined c.requires.kind c.in-Root.is in
+    let is = beginning_is (g.V.NodeView.sees c.args.view.now).steps
+    (g.V.NodeView.sees c.told.new.self).steps c.args.k c.args.kind kind.Root c.told.ensures.grows c.requires.joined c.requires.kind c.in-Root.is in
     sym (ap (λ xs. c.args.made.now ++ xs) is ∙ append-nil c.args.made.now)
 
 pub returns-in_ok-name-in-Element-clause-value : goal.returns-in_ok-name-in-Element-clause-value
 returns-in_ok-name-in-Element-clause-value g c =
-    let is = beginning_is (g.V.NodeView.sees c.args.view.now).steps (g.V.NodeView.sees c.name_of.new.view).steps c.args.k c.args.kind kind.Element c.name_of.ensures.moves.grows c.requires.joined c.requires.kind c.in-Element.is in
+    let is = beginning_is (g.V.NodeView.sees c.args.view.now).steps
+    (g.V.NodeView.sees c.name_of.new.view).steps c.args.k c.args.kind kind.Element c.name_of.ensures.moves.grows c.requires.joined c.requires.kind c.in-Element.is in
     on_ok_weaker c.push.result (λ e. e ∙ ap (λ n. c.args.made.now ++ event.Start n ∷ []) c.in_ok-name-in-Element.ensures.value ∙ ap (λ xs. c.args.made.now ++ xs) (sym is)) c.push.ensures.ok
 
 pub returns-in_ok-value-in-Attribute-clause-value : goal.returns-in_ok-value-in-Attribute-clause-value
@@ -37,12 +39,18 @@ returns-in_ok-value-in-Attribute-clause-value g c =
     let is = beginning_is old new c.args.k c.args.kind kind.Attribute m.grows c.requires.joined c.requires.kind c.in-Attribute.is in
     let row = row_later mid new c.args.k c.text_of.ensures.moves.grows (joined_grows _ _ c.args.k c.name_of-in-Attribute.ensures.moves.grows c.requires.joined) in
     let name = c.in_ok-name-in-Attribute.ensures.value ∙ sym (ap result_name row) in
-    on_ok_weaker c.push-in-Attribute.result (λ e. e ∙ ap (λ n. c.args.made.now ++ event.Attr n c.in_ok-value-in-Attribute.value ∷ []) name ∙ ap (λ v. c.args.made.now ++ event.Attr (result_name (row_at (rows_of new) c.args.k)) v ∷ []) c.in_ok-value-in-Attribute.ensures.value ∙ ap (λ xs. c.args.made.now ++ xs) (sym is)) c.push-in-Attribute.ensures.ok
+    on_ok_weaker c.push-in-Attribute.result
+    (λ e. e ∙ ap (λ n. c.args.made.now ++ event.Attr n c.in_ok-value-in-Attribute.value ∷ []) name
+    ∙ ap (λ v. c.args.made.now ++ event.Attr (result_name (row_at (rows_of new) c.args.k)) v ∷ []) c.in_ok-value-in-Attribute.ensures.value
+    ∙ ap (λ xs. c.args.made.now ++ xs) (sym is)) c.push-in-Attribute.ensures.ok
 
 pub returns-in_ok-text-in-Text-clause-value : goal.returns-in_ok-text-in-Text-clause-value
 returns-in_ok-text-in-Text-clause-value g c =
-    let is = beginning_is (g.V.NodeView.sees c.args.view.now).steps (g.V.NodeView.sees c.text_of-in-Text.new.view).steps c.args.k c.args.kind kind.Text c.text_of-in-Text.ensures.moves.grows c.requires.joined c.requires.kind c.in-Text.is in
-    on_ok_weaker c.push-in-Text.result (λ e. e ∙ text_pushed c.args.made.now c.in_ok-text-in-Text.text ∙ ap (λ v. c.args.made.now ++ text_events v) c.in_ok-text-in-Text.ensures.value ∙ ap (λ xs. c.args.made.now ++ xs) (sym is)) c.push-in-Text.ensures.ok
+    let is = beginning_is (g.V.NodeView.sees c.args.view.now).steps
+    (g.V.NodeView.sees c.text_of-in-Text.new.view).steps c.args.k c.args.kind kind.Text c.text_of-in-Text.ensures.moves.grows c.requires.joined c.requires.kind c.in-Text.is in
+    on_ok_weaker c.push-in-Text.result
+    (λ e. e ∙ text_pushed c.args.made.now c.in_ok-text-in-Text.text ∙ ap (λ v. c.args.made.now ++ text_events v) c.in_ok-text-in-Text.ensures.value
+    ∙ ap (λ xs. c.args.made.now ++ xs) (sym is)) c.push-in-Text.ensures.ok
 
 pub returns-in_ok-value-in-Instruction-clause-value : goal.returns-in_ok-value-in-Instruction-clause-value
 returns-in_ok-value-in-Instruction-clause-value g c =
@@ -53,9 +61,14 @@ returns-in_ok-value-in-Instruction-clause-value g c =
     let is = beginning_is old new c.args.k c.args.kind kind.Instruction m.grows c.requires.joined c.requires.kind c.in-Instruction.is in
     let row = row_later mid new c.args.k c.text_of-in-Instruction.ensures.moves.grows (joined_grows _ _ c.args.k c.name_of-in-Instruction.ensures.moves.grows c.requires.joined) in
     let target = ap (λ (n : Name). n.local) c.in_ok-target-in-Instruction.ensures.value ∙ sym (ap (λ (r : Row). r.local) row) in
-    on_ok_weaker c.push-in-Instruction.result (λ e. e ∙ ap (λ t. c.args.made.now ++ event.Instruction t c.in_ok-value-in-Instruction.value ∷ []) target ∙ ap (λ v. c.args.made.now ++ event.Instruction (row_at (rows_of new) c.args.k).local v ∷ []) c.in_ok-value-in-Instruction.ensures.value ∙ ap (λ xs. c.args.made.now ++ xs) (sym is)) c.push-in-Instruction.ensures.ok
+    on_ok_weaker c.push-in-Instruction.result
+    (λ e. e ∙ ap (λ t. c.args.made.now ++ event.Instruction t c.in_ok-value-in-Instruction.value ∷ []) target
+    ∙ ap (λ v. c.args.made.now ++ event.Instruction (row_at (rows_of new) c.args.k).local v ∷ []) c.in_ok-value-in-Instruction.ensures.value
+    ∙ ap (λ xs. c.args.made.now ++ xs) (sym is)) c.push-in-Instruction.ensures.ok
 
 pub returns-in_ok-text-in-Comment-clause-value : goal.returns-in_ok-text-in-Comment-clause-value
 returns-in_ok-text-in-Comment-clause-value g c =
-    let is = beginning_is (g.V.NodeView.sees c.args.view.now).steps (g.V.NodeView.sees c.text_of-in-Comment.new.view).steps c.args.k c.args.kind kind.Comment c.text_of-in-Comment.ensures.moves.grows c.requires.joined c.requires.kind c.in-Comment.is in
-    on_ok_weaker c.push-in-Comment.result (λ e. e ∙ ap (λ v. c.args.made.now ++ event.Comment v ∷ []) c.in_ok-text-in-Comment.ensures.value ∙ ap (λ xs. c.args.made.now ++ xs) (sym is)) c.push-in-Comment.ensures.ok
+    let is = beginning_is (g.V.NodeView.sees c.args.view.now).steps
+    (g.V.NodeView.sees c.text_of-in-Comment.new.view).steps c.args.k c.args.kind kind.Comment c.text_of-in-Comment.ensures.moves.grows c.requires.joined c.requires.kind c.in-Comment.is in
+    on_ok_weaker c.push-in-Comment.result
+    (λ e. e ∙ ap (λ v. c.args.made.now ++ event.Comment v ∷ []) c.in_ok-text-in-Comment.ensures.value ∙ ap (λ xs. c.args.made.now ++ xs) (sym is)) c.push-in-Comment.ensures.ok

@@ -20,7 +20,9 @@ pub begin-requires-2-clause-joined : goal.begin-requires-2-clause-joined
 begin-requires-2-clause-joined g c = joined_grows _ _ c.args.k c.shown.ensures.moves.grows c.requires.joined
 
 pub begin-requires-2-clause-kind : goal.begin-requires-2-clause-kind
-begin-requires-2-clause-kind g c = c.requires.kind ∙ sym (ap (λ (r : Row). r.kind) (row_later (g.V.NodeView.sees c.args.view.now).steps (g.V.NodeView.sees c.shown.new.self).steps c.args.k c.shown.ensures.moves.grows c.requires.joined))
+begin-requires-2-clause-kind g c =
+    c.requires.kind ∙ sym (ap (λ (r : Row). r.kind)
+    (row_later (g.V.NodeView.sees c.args.view.now).steps (g.V.NodeView.sees c.shown.new.self).steps c.args.k c.shown.ensures.moves.grows c.requires.joined))
 
 pub returns-clause-moves : goal.returns-clause-moves
 returns-clause-moves g c = moves_on _ _ _ c.shown.ensures.moves c.begin-2.ensures.moves
@@ -30,5 +32,6 @@ returns-clause-value g c =
     let mid = (g.V.NodeView.sees c.shown.new.self).steps in
     let new = g.V.NodeView.sees c.begin-2.new.view in
     let m = c.begin-2.ensures.moves in
-    let is = seen_shown new.rules mid new.steps c.args.k m.grows m.seen.lawful (joined_grows _ _ c.args.k c.shown.ensures.moves.grows c.requires.joined) (ap (λ rs. is_visible rs (rows_of mid) c.args.k) m.rules_stay ∙ sym c.if-not-shown.ensures.value) in
+    let is = seen_shown new.rules mid new.steps c.args.k m.grows m.seen.lawful (joined_grows _ _ c.args.k c.shown.ensures.moves.grows c.requires.joined)
+    (ap (λ rs. is_visible rs (rows_of mid) c.args.k) m.rules_stay ∙ sym c.if-not-shown.ensures.value) in
     on_ok_weaker c.begin-2.result (λ e. e ∙ ap (λ xs. c.args.made.now ++ xs) (sym is)) c.begin-2.ensures.value

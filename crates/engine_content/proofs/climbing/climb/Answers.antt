@@ -16,7 +16,9 @@ pub unwrap-up-requires : goal.unwrap-up-requires
 unwrap-up-requires g c =
     let now = (g.V.NodeView.sees c.parent.new.self).steps in
     let m = c.parent.ensures.moves in
-    is_there c.parent.result (λ e. climbed_some now c.args.at c.climb.open c.args.to c.args.made.now c.climb.made m.seen.lawful (climbed_later (g.V.NodeView.sees c.climb.view).steps now c.args.at c.climb.open c.args.to c.args.made.now c.climb.made m.grows c.climb.invariant.climbed) c.climb-test.true (sym c.parent.ensures.value ∙ e))
+    is_there c.parent.result (λ e. climbed_some now c.args.at c.climb.open c.args.to c.args.made.now c.climb.made m.seen.lawful
+    (climbed_later (g.V.NodeView.sees c.climb.view).steps now c.args.at c.climb.open c.args.to c.args.made.now c.climb.made m.grows c.climb.invariant.climbed) c.climb-test.true
+    (sym c.parent.ensures.value ∙ e))
 
 pub returns-in_err-push-clause-moves : goal.returns-in_err-push-clause-moves
 returns-in_err-push-clause-moves g c = moves_on _ _ _ c.climb.invariant.moved c.parent.ensures.moves
@@ -30,5 +32,6 @@ climb-preserved g c =
     let m = c.parent.ensures.moves in
     record {
       moved = moves_on _ _ _ c.climb.invariant.moved c.parent.ensures.moves;
-      climbed = climbed_on now c.args.at c.climb.open c.args.to c.unwrap-up.result c.args.made.now c.climb.made c.push.new.self m.seen.lawful (climbed_later (g.V.NodeView.sees c.climb.view).steps now c.args.at c.climb.open c.args.to c.args.made.now c.climb.made m.grows c.climb.invariant.climbed) c.climb-test.true (sym c.parent.ensures.value ∙ c.unwrap-up.ensures) c.in_ok-push.ensures.ok;
+      climbed = climbed_on now c.args.at c.climb.open c.args.to c.unwrap-up.result c.args.made.now c.climb.made c.push.new.self m.seen.lawful
+          (climbed_later (g.V.NodeView.sees c.climb.view).steps now c.args.at c.climb.open c.args.to c.args.made.now c.climb.made m.grows c.climb.invariant.climbed) c.climb-test.true (sym c.parent.ensures.value ∙ c.unwrap-up.ensures) c.in_ok-push.ensures.ok;
     }

@@ -49,5 +49,7 @@ returns-clause-value g c =
     let row = sym (row_later begun new.steps c.args.n c.copy_below.ensures.moves.grows (joined_grows _ _ c.args.n two.grows c.requires.joined)) in
     let kind = c.kind-kind.ensures.value ∙ sym (ap (λ (r : Row). r.kind) (row_later seen new.steps c.args.n rest.grows (joined_grows _ _ c.args.n first.grows c.requires.joined))) in
     let end = c.requires.end ∙ sym (shut_grows old new.steps c.args.n all.grows all.seen.lawful c.requires.joined c.requires.shut).1 in
-    copy_whole new.rules new.steps c.args.n c.args.end (row_at (rows_of begun) c.args.n) c.kind-kind.result c.in_ok-copy.copy c.begin.new.made c.copy_below.new.made c.finish.new.made all.seen.lawful (joined_grows _ _ c.args.n all.grows c.requires.joined)
+    copy_whole new.rules new.steps c.args.n c.args.end
+    (row_at (rows_of begun) c.args.n) c.kind-kind.result c.in_ok-copy.copy c.begin.new.made c.copy_below.new.made c.finish.new.made all.seen.lawful
+    (joined_grows _ _ c.args.n all.grows c.requires.joined)
     c.in_ok-copy.ensures c.in_ok-begin.ensures.value row end c.in_ok-copy_below.ensures.value kind c.in_ok-finish.ensures

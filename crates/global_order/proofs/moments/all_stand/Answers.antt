@@ -7,7 +7,8 @@ loop-at-init c = none_stand _ _ _ _ c.in_ok-starts.ensures.items
 
 pub loop-at-preserved : goal.loop-at-preserved
 loop-at-preserved c =
-    one_more_stands c.args.nodes.now c.args.moments.now c.args.order.now c.loop-at.starts.items c.push.new.self.items c.loop-at.at _ _ c.loop-at.invariant (there c.args.order.now c.loop-at.at c.loop-at-test.true) c.stretch-from.ensures c.if-not-stands.ensures c.in_ok-push.ensures.items
+    one_more_stands c.args.nodes.now c.args.moments.now c.args.order.now c.loop-at.starts.items c.push.new.self.items c.loop-at.at _ _ c.loop-at.invariant
+    (there c.args.order.now c.loop-at.at c.loop-at-test.true) c.stretch-from.ensures c.if-not-stands.ensures c.in_ok-push.ensures.items
 
 pub returns : goal.returns
 returns c = λ k l. c.loop-at.invariant.stand k (let b = c.loop-at-test.false in omega (arith, l, b))

@@ -30,25 +30,31 @@ returns-in_ok-write_text-in-Text c = λ state stands.
     let is = c.in-Text.is in
     let added = c.in_ok-write_text-in-Text.ensures.ok ∙ ap (λ (text : List ℕ). c.flush-in-Text.new.out.items ++ written (line.Text text)) c.as_slice.ensures in
     rw is
-    (stepped state c.args.nest.now c.args.nest.now c.args.heading (made_event.Text c.in-Text.text) c.args.out.now.items c.write_text.new.out.items (line.Text c.in-Text.text ∷ []) stands (λ later. refl) (λ later. refl)
+    (stepped state c.args.nest.now c.args.nest.now c.args.heading (made_event.Text c.in-Text.text) c.args.out.now.items c.write_text.new.out.items
+    (line.Text c.in-Text.text ∷ []) stands (λ later. refl) (λ later. refl)
     (after_line c.args.out.now.items (held_in c.args.heading) c.flush-in-Text.new.out.items c.write_text.new.out.items (line.Text c.in-Text.text) c.in_ok-flush-in-Text.ensures added))
 
 pub returns-in_ok-write_instruction-in-Instruction : goal.returns-in_ok-write_instruction-in-Instruction
 returns-in_ok-write_instruction-in-Instruction c = λ state stands.
     let is = c.in-Instruction.is in
     let added =
-    c.in_ok-write_instruction-in-Instruction.ensures.ok ∙ (ap (λ (target : List ℕ). c.flush-in-Instruction.new.out.items ++ written (line.Instruction target c.as_slice-in-Instruction-2.result.now)) c.as_slice-in-Instruction.ensures
+    c.in_ok-write_instruction-in-Instruction.ensures.ok
+    ∙ (ap (λ (target : List ℕ). c.flush-in-Instruction.new.out.items ++ written (line.Instruction target c.as_slice-in-Instruction-2.result.now)) c.as_slice-in-Instruction.ensures
     ∙ ap (λ (value : List ℕ). c.flush-in-Instruction.new.out.items ++ written (line.Instruction c.in-Instruction.target value)) c.as_slice-in-Instruction-2.ensures) in
     rw is
-    (stepped state c.args.nest.now c.args.nest.now c.args.heading (made_event.Instruction c.in-Instruction.target c.in-Instruction.value) c.args.out.now.items c.write_instruction.new.out.items (line.Instruction c.in-Instruction.target c.in-Instruction.value ∷ []) stands (λ later. refl) (λ later. refl)
-    (after_line c.args.out.now.items (held_in c.args.heading) c.flush-in-Instruction.new.out.items c.write_instruction.new.out.items (line.Instruction c.in-Instruction.target c.in-Instruction.value) c.in_ok-flush-in-Instruction.ensures added))
+    (stepped state c.args.nest.now c.args.nest.now c.args.heading
+    (made_event.Instruction c.in-Instruction.target c.in-Instruction.value) c.args.out.now.items c.write_instruction.new.out.items
+    (line.Instruction c.in-Instruction.target c.in-Instruction.value ∷ []) stands (λ later. refl) (λ later. refl)
+    (after_line c.args.out.now.items (held_in c.args.heading) c.flush-in-Instruction.new.out.items c.write_instruction.new.out.items
+    (line.Instruction c.in-Instruction.target c.in-Instruction.value) c.in_ok-flush-in-Instruction.ensures added))
 
 pub returns-in_ok-write_comment-in-Comment : goal.returns-in_ok-write_comment-in-Comment
 returns-in_ok-write_comment-in-Comment c = λ state stands.
     let is = c.in-Comment.is in
     let added = c.in_ok-write_comment-in-Comment.ensures.ok ∙ ap (λ (text : List ℕ). c.flush-in-Comment.new.out.items ++ written (line.Comment text)) c.as_slice-in-Comment.ensures in
     rw is
-    (stepped state c.args.nest.now c.args.nest.now c.args.heading (made_event.Comment c.in-Comment.text) c.args.out.now.items c.write_comment.new.out.items (line.Comment c.in-Comment.text ∷ []) stands (λ later. refl) (λ later. refl)
+    (stepped state c.args.nest.now c.args.nest.now c.args.heading (made_event.Comment c.in-Comment.text) c.args.out.now.items c.write_comment.new.out.items
+    (line.Comment c.in-Comment.text ∷ []) stands (λ later. refl) (λ later. refl)
     (after_line c.args.out.now.items (held_in c.args.heading) c.flush-in-Comment.new.out.items c.write_comment.new.out.items (line.Comment c.in-Comment.text) c.in_ok-flush-in-Comment.ensures added))
 
 pub returns-in_ok-finish-in-End : goal.returns-in_ok-finish-in-End

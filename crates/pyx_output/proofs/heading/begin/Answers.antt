@@ -15,10 +15,12 @@ returns-clause-stands c =
     let prefix = c.in_ok-chosen.ensures.prefix in
     let same = c.in_ok-chosen.ensures.choice in
     let name : c.in_ok-written.written ≡ element_name (in_force outer) c.args.name.now =
-    c.in_ok-written.ensures ∙ (ap (λ (front : List ℕ). qualified front c.as_slice-2.result.now) (c.as_slice.ensures ∙ prefix) ∙ ap (λ (local : List ℕ). qualified choice.prefix local) c.as_slice-2.ensures) in
+    c.in_ok-written.ensures ∙ (ap (λ (front : List ℕ). qualified front c.as_slice-2.result.now) (c.as_slice.ensures ∙ prefix)
+    ∙ ap (λ (local : List ℕ). qualified choice.prefix local) c.as_slice-2.ensures) in
     let opened : c.open.new.self ≡ record { name = element_name (in_force outer) c.args.name.now; bound = in_force outer } ∷ outer =
     c.in_ok-open.ensures ∙ ap (λ (name : List ℕ). record { name = name; bound = in_force outer } ∷ outer) name in (
-      c.in_ok-take.ensures.nest ∙ (ap (λ (elements : List Element). with_all (choice_of chosen uri).declared elements) opened ∙ begun_nest chosen uri (element_name (in_force outer) c.args.name.now) outer choice same),
+      c.in_ok-take.ensures.nest ∙ (ap (λ (elements : List Element). with_all (choice_of chosen uri).declared elements) opened
+          ∙ begun_nest chosen uri (element_name (in_force outer) c.args.name.now) outer choice same),
       begun_used c.take.new.used chosen.prefix choice.prefix prefix (c.in_ok-take.ensures.used [] c.none_used-used.ensures),
       c.new.ensures.items,
       begun_own chosen uri choice same,

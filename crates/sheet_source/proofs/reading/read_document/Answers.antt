@@ -25,9 +25,11 @@ returns-in_err-take_line-in-Ok-Some c =
     let e = c.in_err-take_line-in-Ok-Some.field-0.0 in
     let was : c.next.result ≡ Ok (Some c.in-Ok-Some.line) = c.in-Ok-Some.is ∙ ap Ok c.in-Ok-Some.field-0-is in
     let going : c.lines.reader.ended ≡ false = is_going c.lines.reader.ended c.next.result c.in-Ok-Some.line was (λ ended. (c.next.ensures.over it.going ended).0) in
-    let given : ahead_of c.lines.reader c.lines.source.rest.now ≡ Ok c.in-Ok-Some.line ∷ ahead_of c.next.new.self c.next.new.source.rest.now = rw c.in-Ok-Some.field-0-is at (c.in-Ok-Some.ensures.given going) in
+    let given : ahead_of c.lines.reader c.lines.source.rest.now ≡ Ok c.in-Ok-Some.line ∷ ahead_of c.next.new.self c.next.new.source.rest.now =
+    rw c.in-Ok-Some.field-0-is at (c.in-Ok-Some.ensures.given going) in
     handed_on (source_of c.args.bytes.now) c.from_residual-in_err-take_line-in-Ok-Some.result e c.from_residual-in_err-take_line-in-Ok-Some.ensures.1
-    (line_stopped (source_of c.args.bytes.now) c.lines.building it.before c.in-Ok-Some.line (ahead_of c.lines.reader c.lines.source.rest.now) (ahead_of c.next.new.self c.next.new.source.rest.now) e it.rest given
+    (line_stopped (source_of c.args.bytes.now) c.lines.building it.before c.in-Ok-Some.line (ahead_of c.lines.reader c.lines.source.rest.now)
+    (ahead_of c.next.new.self c.next.new.source.rest.now) e it.rest given
     (c.in_err-take_line-in-Ok-Some.ensures.refused it.before it.stands))
 
 pub returns-in-Ok-None : goal.returns-in-Ok-None

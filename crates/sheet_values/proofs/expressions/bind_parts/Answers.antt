@@ -12,7 +12,8 @@ returns-in_err-bind_part c =
     let i = c.into_vec-part-items.ensures in
     let road = YieldsList-from_vec {s = c.into_iter-part-iterator.result} c.args.parts (h.0 ∙ i) (h.1 ∙ c.into_vec-part-items.result.ok.0 ∙ ap length i) in
     stops_at (bound_part (resolution c.args.scopes.now)) c.loop-part.bound c.loop-part.yielded c.args.parts c.in-Some.part c.from_residual.result c.in_err-bind_part.field-0.0 c.loop-part.invariant
-    (YieldsList-so_far road c.loop-part.yielded _ c.loop-part.yielded_by) (YieldsList-turn road c.loop-part.yielded _ c.loop-part.yielded_by _ c.next.new.self c.in-Some.part c.in-Some.is c.next.ensures.steps)
+    (YieldsList-so_far road c.loop-part.yielded _ c.loop-part.yielded_by)
+    (YieldsList-turn road c.loop-part.yielded _ c.loop-part.yielded_by _ c.next.new.self c.in-Some.part c.in-Some.is c.next.ensures.steps)
     c.from_residual.ensures.1 c.in_err-bind_part.ensures
 
 pub returns : goal.returns

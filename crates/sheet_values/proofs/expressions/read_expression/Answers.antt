@@ -12,4 +12,5 @@ returns-in-Ok c = ap (or_kind unparsed) (read_tree (rule.level precedence.Or) c.
 
 pub returns-in-Err : goal.returns-in-Err
 returns-in-Err c =
-    subst (λ s. Answers (or_kind unparsed (tree_of (rule.level precedence.Or) c.args.text.now)) (Err s)) (sym c.stop_unparsed.ensures) (refused_tree (rule.level precedence.Or) c.args.text.now c.in-Err.error c.in-Err.ensures)
+    subst (λ s. Answers (or_kind unparsed (tree_of (rule.level precedence.Or) c.args.text.now)) (Err s)) (sym c.stop_unparsed.ensures)
+    (refused_tree (rule.level precedence.Or) c.args.text.now c.in-Err.error c.in-Err.ensures)

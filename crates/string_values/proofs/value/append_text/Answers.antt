@@ -12,7 +12,8 @@ use Rattle.string_values.proofs.value.append_text.Goals as goal
 pub returns-then-not-is_text-clause-value : goal.returns-then-not-is_text-clause-value
 returns-then-not-is_text-clause-value g c =
     let none : is_text (row_at (rows_of (g.V.NodeView.sees c.kind.new.self).steps) c.args.k).kind ≡ false = ap is_text (sym c.kind.ensures.value) ∙ sym c.if-not-is_text.ensures in
-    sym (ap (λ xs. c.args.into.now.items ++ xs) (other_alone (g.V.NodeView.sees c.kind.new.self).rules (rows_of (g.V.NodeView.sees c.kind.new.self).steps) c.args.k none) ∙ append-nil c.args.into.now.items)
+    sym (ap (λ xs. c.args.into.now.items ++ xs) (other_alone (g.V.NodeView.sees c.kind.new.self).rules (rows_of (g.V.NodeView.sees c.kind.new.self).steps) c.args.k none)
+    ∙ append-nil c.args.into.now.items)
 
 pub shown-requires : goal.shown-requires
 shown-requires g c = joined_grows _ _ c.args.k c.kind.ensures.moves.grows c.requires
@@ -22,7 +23,8 @@ returns-then-not-shown-clause-moves g c = moves_on _ _ _ c.kind.ensures.moves c.
 
 pub returns-then-not-shown-clause-value : goal.returns-then-not-shown-clause-value
 returns-then-not-shown-clause-value g c =
-    sym (ap (λ xs. c.args.into.now.items ++ xs) (hidden_alone (g.V.NodeView.sees c.shown.new.self).rules (rows_of (g.V.NodeView.sees c.shown.new.self).steps) c.args.k (sym c.if-not-shown.ensures.value)) ∙ append-nil c.args.into.now.items)
+    sym (ap (λ xs. c.args.into.now.items ++ xs)
+    (hidden_alone (g.V.NodeView.sees c.shown.new.self).rules (rows_of (g.V.NodeView.sees c.shown.new.self).steps) c.args.k (sym c.if-not-shown.ensures.value)) ∙ append-nil c.args.into.now.items)
 
 pub text-requires : goal.text-requires
 text-requires g c = joined_grows _ _ c.args.k (moves_on _ _ _ c.kind.ensures.moves c.shown.ensures.moves).grows c.requires
@@ -36,7 +38,8 @@ returns-clause-value g c =
     let later = joined_grows _ _ c.args.k c.shown.ensures.moves.grows joined in
     let m = moves_on _ _ _ c.shown.ensures.moves c.text.ensures.moves in
     let new = g.V.NodeView.sees c.text.new.self in
-    let text : is_text (row_at (rows_of new.steps) c.args.k).kind ≡ true = ap (λ (r : Row). is_text r.kind) (row_later _ _ c.args.k m.grows joined) ∙ ap is_text (sym c.kind.ensures.value) ∙ sym c.if-not-is_text.ensures in
+    let text : is_text (row_at (rows_of new.steps) c.args.k).kind ≡ true =
+    ap (λ (r : Row). is_text r.kind) (row_later _ _ c.args.k m.grows joined) ∙ ap is_text (sym c.kind.ensures.value) ∙ sym c.if-not-is_text.ensures in
     let rules = (g.V.NodeView.sees c.shown.new.self).rules in
     let seen : is_visible new.rules (rows_of new.steps) c.args.k ≡ true =
     ap (λ rs. is_visible rs (rows_of new.steps) c.args.k) c.text.ensures.moves.rules_stay

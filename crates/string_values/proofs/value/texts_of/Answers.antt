@@ -6,12 +6,15 @@ use Rattle.string_values.proofs.Reached.{Reached, reached_first, reached_joined,
 use Rattle.string_values.proofs.value.texts_of.Goals as goal
 
 pub returns-in-None-clause-answers : goal.returns-in-None-clause-answers
-returns-in-None-clause-answers g c = was_open (g.V.NodeView.sees c.extent.new.self).rules (g.V.NodeView.sees c.args.view.now).steps (g.V.NodeView.sees c.extent.new.self).steps c.args.n c.args.into.now.items c.requires.joined c.requires.parent c.in-None.ensures.value
+returns-in-None-clause-answers g c =
+    was_open (g.V.NodeView.sees c.extent.new.self).rules (g.V.NodeView.sees c.args.view.now).steps
+    (g.V.NodeView.sees c.extent.new.self).steps c.args.n c.args.into.now.items c.requires.joined c.requires.parent c.in-None.ensures.value
 
 pub rows-init : goal.rows-init
 rows-init g c = record {
   moved = c.extent.ensures.moves;
-  reached = reached_first (g.V.NodeView.sees c.extent.new.self).rules (g.V.NodeView.sees c.extent.new.self).steps c.args.n (c.args.n + 1) c.in-Some.end c.args.into.now.items (joined_grows _ _ c.args.n c.extent.ensures.moves.grows c.requires.joined) refl c.in-Some.ensures.value.0 c.in-Some.ensures.value.1;
+  reached = reached_first (g.V.NodeView.sees c.extent.new.self).rules (g.V.NodeView.sees c.extent.new.self).steps c.args.n (c.args.n + 1) c.in-Some.end c.args.into.now.items
+      (joined_grows _ _ c.args.n c.extent.ensures.moves.grows c.requires.joined) refl c.in-Some.ensures.value.0 c.in-Some.ensures.value.1;
 }
 
 pub append_text-requires : goal.append_text-requires
@@ -22,7 +25,8 @@ rows-preserved g c =
     let later : c.args.n < c.rows.k = omega arith in
     let within : c.rows.k ≤ c.in-Some.end = omega arith in
     let r = reached_later _ _ _ _ _ _ _ _ c.append_text.ensures.moves.grows c.append_text.ensures.moves.seen.lawful later within c.rows.invariant.reached in
-    let s = subst (λ rs. Reached rs (g.V.NodeView.sees c.append_text.new.view).steps c.args.n c.rows.k c.in-Some.end c.args.into.now.items c.rows.into.items) (sym c.append_text.ensures.moves.rules_stay) r in
+    let s = subst (λ rs. Reached rs (g.V.NodeView.sees c.append_text.new.view).steps c.args.n c.rows.k c.in-Some.end c.args.into.now.items c.rows.into.items)
+    (sym c.append_text.ensures.moves.rules_stay) r in
     record {
       moved = moves_on _ _ _ c.rows.invariant.moved c.append_text.ensures.moves;
       reached = reached_on _ _ _ _ _ _ _ _ later s c.in-Ok.ensures.value;

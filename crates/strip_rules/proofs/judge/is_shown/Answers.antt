@@ -10,13 +10,21 @@ use Rattle.strip_rules.proofs.Later.{row_later, parent_later, plain_later}
 use Rattle.strip_rules.proofs.judge.is_shown.Goals as goal
 
 pub returns-then-not-blank : goal.returns-then-not-blank
-returns-then-not-blank g c = record { moves = c.blank.ensures.moves; value = sym (other_is_visible c.args.rules.now (rows_of (g.V.NodeView.sees c.blank.new.self).steps) c.args.n (sym c.if-not-blank.ensures.value)) }
+returns-then-not-blank g c = record {
+  moves = c.blank.ensures.moves;
+  value =
+      sym (other_is_visible c.args.rules.now (rows_of (g.V.NodeView.sees c.blank.new.self).steps) c.args.n (sym c.if-not-blank.ensures.value));
+}
 
 pub parent-requires : goal.parent-requires
 parent-requires g c = joined_grows _ _ c.args.n c.blank.ensures.moves.grows c.requires.joined
 
 pub returns-in-None : goal.returns-in-None
-returns-in-None g c = record { moves = moves_on _ _ _ c.blank.ensures.moves c.parent.ensures.moves; value = sym (top_is_visible c.args.rules.now (rows_of (g.V.NodeView.sees c.parent.new.self).steps) c.args.n (sym c.in-None.ensures.value)) }
+returns-in-None g c = record {
+  moves = moves_on _ _ _ c.blank.ensures.moves c.parent.ensures.moves;
+  value =
+      sym (top_is_visible c.args.rules.now (rows_of (g.V.NodeView.sees c.parent.new.self).steps) c.args.n (sym c.in-None.ensures.value));
+}
 
 pub strips-requires-clause-joined : goal.strips-requires-clause-joined
 strips-requires-clause-joined g c = (parent_before (rows_of (g.V.NodeView.sees c.parent.new.self).steps) c.args.n c.in-Some.up (sym c.in-Some.ensures.value)).1
@@ -25,7 +33,11 @@ pub returns-then-not-strips : goal.returns-then-not-strips
 returns-then-not-strips g c =
     let m = moves_on _ _ _ c.blank.ensures.moves c.parent.ensures.moves in
     let e = parent_later _ _ c.args.n c.strips.ensures.moves.grows (joined_grows _ _ c.args.n m.grows c.requires.joined) ∙ sym c.in-Some.ensures.value in
-    record { moves = moves_on _ _ _ m c.strips.ensures.moves; value = sym (unstripped_is_visible c.args.rules.now (rows_of (g.V.NodeView.sees c.strips.new.view).steps) c.args.n c.in-Some.up e (sym c.if-not-strips.ensures.value)) }
+    record {
+      moves = moves_on _ _ _ m c.strips.ensures.moves;
+      value =
+          sym (unstripped_is_visible c.args.rules.now (rows_of (g.V.NodeView.sees c.strips.new.view).steps) c.args.n c.in-Some.up e (sym c.if-not-strips.ensures.value));
+    }
 
 pub keeps_space-requires-clause-joined : goal.keeps_space-requires-clause-joined
 keeps_space-requires-clause-joined g c =

@@ -14,7 +14,11 @@ judge-init g c = record { moved = c.told.ensures; ruled = ruled_first _ _ }
 pub judge-preserved-then-weight-best : goal.judge-preserved-then-weight-best
 judge-preserved-then-weight-best g c =
     let e = sym (get_or_read c.args.rules.now c.judge.rule-index c.rule-item.result c.judge-test.true c.rule-item.is c.rule-item.result) in
-    record { moved = c.judge.invariant.moved; ruled = ruled_lower _ _ _ _ _ c.rule-item.result c.judge-test.true e c.judge.invariant.ruled (omega (arith, c.weight-weight.ensures, c.if-weight-best.true)) }
+    record {
+      moved = c.judge.invariant.moved;
+      ruled =
+          ruled_lower _ _ _ _ _ c.rule-item.result c.judge-test.true e c.judge.invariant.ruled (omega (arith, c.weight-weight.ensures, c.if-weight-best.true));
+    }
 
 pub fits-requires-clause-joined : goal.fits-requires-clause-joined
 fits-requires-clause-joined g c = joined_grows _ _ c.args.n c.judge.invariant.moved.grows c.requires.joined
@@ -40,7 +44,8 @@ judge-preserved g c =
     let k = ruled_better _ _ _ _ _ c.rule-item.result c.judge-test.true e r (sym c.if-not-fits.ensures.value) (omega (arith, c.weight-weight.ensures, c.if-weight-best.false)) in
     record {
       moved = moves_on _ _ _ c.judge.invariant.moved c.fits.ensures.moves;
-      ruled = subst (λ b. Ruled c.args.rules.now (row_at (rows_of (g.V.NodeView.sees c.fits.new.view).steps) c.args.n) (c.judge.rule-index + 1) c.rule-item.result.strip b) (sym c.weight-weight.ensures) k;
+      ruled = subst (λ b. Ruled c.args.rules.now (row_at (rows_of (g.V.NodeView.sees c.fits.new.view).steps) c.args.n) (c.judge.rule-index + 1) c.rule-item.result.strip b)
+          (sym c.weight-weight.ensures) k;
     }
 
 pub returns : goal.returns

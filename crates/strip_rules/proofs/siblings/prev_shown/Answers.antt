@@ -23,14 +23,17 @@ is_shown-requires-clause-joined g c = back_within _ _ _ _ _ _ c.back.invariant.m
 pub returns-then-is_shown : goal.returns-then-is_shown
 returns-then-is_shown g c = record {
   moves = moves_on _ _ _ (moves_on _ _ _ c.back.invariant.moved c.prev.ensures.moves) c.is_shown.ensures.moves;
-  value = sym (back_found _ _ _ _ _ _ c.back.invariant.moved c.requires.plain c.back.invariant.returning c.prev.ensures.moves _ _ c.is_shown.ensures.moves (sym c.in-Some.ensures.value) c.if-is_shown.ensures.value);
+  value = sym (back_found _ _ _ _ _ _ c.back.invariant.moved c.requires.plain c.back.invariant.returning c.prev.ensures.moves _ _ c.is_shown.ensures.moves
+      (sym c.in-Some.ensures.value) c.if-is_shown.ensures.value);
 }
 
 pub back-smaller : goal.back-smaller
-back-smaller g c = (back_on _ _ _ _ _ _ c.back.invariant.moved c.requires.plain c.back.invariant.returning c.prev.ensures.moves _ _ c.is_shown.ensures.moves (sym c.in-Some.ensures.value) c.if-is_shown.ensures.value).1
+back-smaller g c = (back_on _ _ _ _ _ _ c.back.invariant.moved c.requires.plain c.back.invariant.returning c.prev.ensures.moves _ _ c.is_shown.ensures.moves
+    (sym c.in-Some.ensures.value) c.if-is_shown.ensures.value).1
 
 pub back-preserved : goal.back-preserved
 back-preserved g c = record {
   moved = moves_on _ _ _ (moves_on _ _ _ c.back.invariant.moved c.prev.ensures.moves) c.is_shown.ensures.moves;
-  returning = (back_on _ _ _ _ _ _ c.back.invariant.moved c.requires.plain c.back.invariant.returning c.prev.ensures.moves _ _ c.is_shown.ensures.moves (sym c.in-Some.ensures.value) c.if-is_shown.ensures.value).0;
+  returning = (back_on _ _ _ _ _ _ c.back.invariant.moved c.requires.plain c.back.invariant.returning c.prev.ensures.moves _ _ c.is_shown.ensures.moves
+      (sym c.in-Some.ensures.value) c.if-is_shown.ensures.value).0;
 }

@@ -10,7 +10,8 @@ use Rattle.strip_rules.proofs.spaces.said_by.Goals as goal
 pub attributes-init : goal.attributes-init
 attributes-init g c = record {
   moved = c.attr_count-count.ensures.moves;
-  saying = saying_first _ c.args.n _ (joined_grows _ _ c.args.n c.attr_count-count.ensures.moves.grows c.requires.joined) (plain_later _ _ c.args.n c.attr_count-count.ensures.moves.grows c.requires.joined c.requires.plain) c.attr_count-count.ensures.value;
+  saying = saying_first _ c.args.n _ (joined_grows _ _ c.args.n c.attr_count-count.ensures.moves.grows c.requires.joined)
+      (plain_later _ _ c.args.n c.attr_count-count.ensures.moves.grows c.requires.joined c.requires.plain) c.attr_count-count.ensures.value;
 }
 
 pub said_at-requires : goal.said_at-requires

@@ -33,5 +33,6 @@ returns-in-Ok-clause-said g c = λ limits bytes count at _.
     let begun = c.fed_lines_are_a_beginning.ensures in
     let steps = begun.steps _ _ _ bytes _ at.lines at.fed in
     let going = begun.going _ _ _ bytes _ at.lines at.fed in
-    let told = turn_told limits bytes count c.in-Reader.reader (steps_of_session c.args.session.now) _ _ (rw (at.limited, at.counted) at steps) (rw (at.limited, at.counted) at going) c.in-Ok.ensures.said in
+    let told = turn_told limits bytes count c.in-Reader.reader (steps_of_session c.args.session.now) _ _ (rw (at.limited, at.counted) at steps)
+    (rw (at.limited, at.counted) at going) c.in-Ok.ensures.said in
     told ∙ ap (λ item. string_bytes c.args.said.now ++ progress_text (runs (made_after limits bytes) (feeds_of limits bytes) count (item ∷ []))) (sym c.in-Reader.is)

@@ -44,7 +44,8 @@ returns-in_default g c =
       said = λ limits bytes count at tells.
           let here = i.leaves.going refl limits (Some bytes) count at in
           last_said (made_after limits bytes) limits bytes count items k (Lines 0) _ _ _ within
-          (told_last limits bytes _ (count + total (take k items)) (total (get_or items k (Lines 0) ∷ [])) _ _ c.in_default.not-Line tells (e.leaves.found c.in_default.not-Line limits (Some bytes) (count + total (take k items)) here))
+          (told_last limits bytes _ (count + total (take k items)) (total (get_or items k (Lines 0) ∷ [])) _ _ c.in_default.not-Line tells
+          (e.leaves.found c.in_default.not-Line limits (Some bytes) (count + total (take k items)) here))
           (i.said limits bytes count at) (e.said limits bytes (count + total (take k items)) here tells);
     }
 

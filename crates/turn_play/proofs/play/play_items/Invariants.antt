@@ -9,7 +9,8 @@ use Rattle.turn_play.proofs.play.play_items.Given as goal
 
 abbrev pub invariant-loop-item : goal.invariant-loop-item
 invariant-loop-item g l = record {
-  leaves : Leaves l.initial.session l.session (g.S.Source.left l.initial.source) (g.S.Source.left l.source) (g.S.Source.faults l.initial.source) (g.S.Source.faults l.source) (total (take l.item-index l.items)) fed.Line;
+  leaves : Leaves l.initial.session l.session (g.S.Source.left l.initial.source) (g.S.Source.left l.source) (g.S.Source.faults l.initial.source) (g.S.Source.faults l.source)
+      (total (take l.item-index l.items)) fed.Line;
   said : (limits : Limits) (bytes : List ℕ) (count : ℕ) → IsAt l.initial.session limits (Some bytes) (g.S.Source.left l.initial.source) count →
       string_bytes l.said ≡ string_bytes l.initial.said ++ progress_text (runs (made_after limits bytes) (feeds_of limits bytes) count (take l.item-index l.items));
 }

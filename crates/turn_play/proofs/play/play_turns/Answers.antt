@@ -31,7 +31,8 @@ passes-preserved g c =
       leaves = leaves_join _ _ _ _ _ _ _ _ _ (total (repeated i.pass items)) (total items) _ fed.Line (total_pass i.pass items) i.leaves e.leaves;
       once = λ still. absurd (false≢true (sym still ∙ c.if-not-feeding.false));
       said = λ limits bytes at. pass_more (made_after limits bytes) (feeds_of limits bytes) i.pass items _ _ _ (i.said limits bytes at)
-          (e.said limits bytes (total (repeated i.pass items)) (IsAt-at _ limits (Some bytes) _ (0 + total (repeated i.pass items)) (total (repeated i.pass items)) (omega arith) (i.leaves.going refl limits (Some bytes) 0 at)) tt);
+          (e.said limits bytes (total (repeated i.pass items))
+          (IsAt-at _ limits (Some bytes) _ (0 + total (repeated i.pass items)) (total (repeated i.pass items)) (omega arith) (i.leaves.going refl limits (Some bytes) 0 at)) tt);
     }
 
 pub passes-smaller : goal.passes-smaller
@@ -69,7 +70,8 @@ returns-then-not-feeding g c =
       leaves = (total (repeated i.pass items) + total items + rest.0, leaves_join _ _ _ _ _ _ _ _ _ _ rest.0 _ _ refl before rest.1);
       said = λ limits bytes at tells.
           let here = IsAt-at _ limits (Some bytes) _ (0 + total (repeated i.pass items)) (total (repeated i.pass items)) (omega arith) (i.leaves.going refl limits (Some bytes) 0 at) in
-          once_said (made_after limits bytes) (feeds_of limits bytes) i.pass items _ _ _ (sym c.any_feeds-feeding.ensures ∙ c.if-not-feeding.true) (i.once c.if-not-feeding.true) (i.said limits bytes at)
+          once_said (made_after limits bytes) (feeds_of limits bytes) i.pass items _ _ _ (sym c.any_feeds-feeding.ensures ∙ c.if-not-feeding.true) (i.once c.if-not-feeding.true)
+          (i.said limits bytes at)
           (e.said limits bytes _ here tt);
       over = c.feed_rest.ensures.over;
     }

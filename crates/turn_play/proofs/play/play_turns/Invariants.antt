@@ -11,7 +11,8 @@ use Rattle.turn_play.proofs.play.play_turns.Given as goal
 abbrev pub invariant-passes : goal.invariant-passes
 invariant-passes g l = record {
   pass : ℕ;
-  leaves : Leaves l.initial.session l.session (g.S.Source.left l.initial.source) (g.S.Source.left l.source) (g.S.Source.faults l.initial.source) (g.S.Source.faults l.source) (total (repeated pass l.items)) fed.Line;
+  leaves : Leaves l.initial.session l.session (g.S.Source.left l.initial.source) (g.S.Source.left l.source) (g.S.Source.faults l.initial.source) (g.S.Source.faults l.source)
+      (total (repeated pass l.items)) fed.Line;
   once : l.feeding ≡ false → pass ≡ 0;
   said : (limits : Limits) (bytes : List ℕ) → IsAt l.initial.session limits (Some bytes) (g.S.Source.left l.initial.source) 0 →
       string_bytes l.said ≡ string_bytes l.initial.said ++ progress_text (runs (made_after limits bytes) (feeds_of limits bytes) 0 (repeated pass l.items));

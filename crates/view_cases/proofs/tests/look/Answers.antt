@@ -8,4 +8,5 @@ use Rattle.view_cases.proofs.tests.look.Goals as goal
 pub returns : goal.returns
 returns c =
     let before = subst (λ (table : Table). IsStream (seen_of table.cells) c.args.stream.now) (sym c.view.ensures) c.requires in
-    subst (λ (table : Table). IsStream (seen_of table.cells) c.next.new.self) c.view.ensures (stream_stands c.view.result.cells (seen_of c.next.new.view.cells) c.args.stream.now c.next.new.self c.next.result c.next.ensures.moves before c.next.ensures.value)
+    subst (λ (table : Table). IsStream (seen_of table.cells) c.next.new.self) c.view.ensures
+    (stream_stands c.view.result.cells (seen_of c.next.new.view.cells) c.args.stream.now c.next.new.self c.next.result c.next.ensures.moves before c.next.ensures.value)

@@ -18,5 +18,6 @@ pub returns-in_ok-text-in-Nodes-clause-answers : goal.returns-in_ok-text-in-Node
 returns-in_ok-text-in-Nodes-clause-answers g c = λ lookups. says_same
     (λ R. ap (comparison c.args.op R (Fragment c.args.events.now)) c.in-Nodes.is
     ∙ ap (λ (ns : List ℕ). some_right c.args.op R (Text (fragments.text_of c.args.events.now)) ns) (sym c.as_slice.ensures)
-    ∙ ap (λ t. some_right c.args.op R (Text t) c.as_slice.result.now) (sym (made_ok c.fragment_text.result c.in_ok-text-in-Nodes.text (fragments.text_of c.args.events.now) c.fragment_text.ensures c.in_ok-text-in-Nodes.ensures)))
+    ∙ ap (λ t. some_right c.args.op R (Text t) c.as_slice.result.now)
+    (sym (made_ok c.fragment_text.result c.in_ok-text-in-Nodes.text (fragments.text_of c.args.events.now) c.fragment_text.ensures c.in_ok-text-in-Nodes.ensures)))
     (says_after c.told.ensures (c.some_right.ensures.answers lookups))

@@ -6,10 +6,13 @@ use Rattle.xpath_nodes.specs.Held.{AllJoined, HasJoined}
 use Rattle.xpath_nodes.proofs.comparing.compare_values.Goals as goal
 
 pub compare_nodes-requires-clause-left : goal.compare_nodes-requires-clause-left
-compare_nodes-requires-clause-left g c = subst (AllJoined (g.V.NodeView.sees c.args.view.now).steps) (sym c.as_slice.ensures) (subst (HasJoined (g.V.NodeView.sees c.args.view.now).steps) c.in-Nodes.is c.requires.left)
+compare_nodes-requires-clause-left g c =
+    subst (AllJoined (g.V.NodeView.sees c.args.view.now).steps) (sym c.as_slice.ensures) (subst (HasJoined (g.V.NodeView.sees c.args.view.now).steps) c.in-Nodes.is c.requires.left)
 
 pub returns-in-Nodes-clause-answers : goal.returns-in-Nodes-clause-answers
-returns-in-Nodes-clause-answers g c = λ lookups. says_same (λ R. ap (λ a. comparison c.args.op R a c.args.b.now) c.in-Nodes.is ∙ ap (λ ns. comparison c.args.op R (Nodes ns) c.args.b.now) (sym c.as_slice.ensures)) (c.compare_nodes.ensures.answers lookups)
+returns-in-Nodes-clause-answers g c =
+    λ lookups. says_same (λ R. ap (λ a. comparison c.args.op R a c.args.b.now) c.in-Nodes.is ∙ ap (λ ns. comparison c.args.op R (Nodes ns) c.args.b.now) (sym c.as_slice.ensures))
+    (c.compare_nodes.ensures.answers lookups)
 
 pub returns-in-Atom-clause-answers : goal.returns-in-Atom-clause-answers
 returns-in-Atom-clause-answers g c = λ lookups. says_same (λ R. ap (λ a. comparison c.args.op R a c.args.b.now) c.in-Atom.is) (c.compare_atom.ensures.answers lookups)

@@ -13,8 +13,11 @@ loop-b-init c = refl
 
 pub returns-in_err-here : goal.returns-in_err-here
 returns-in_err-here c = gives_exit (meets_some c.args.op c.args.a.now c.args.atoms.now) c.from_residual.result c.in_err-here.field-0.0 c.from_residual.ensures.1
-    (gives_same (compare_atoms c.args.op c.args.a.now c.b-item.result >>= λ here. cond here (Known true) (meets_some c.args.op c.args.a.now (drop (c.loop-b.b-index + 1) c.args.atoms.now))) (meets_some c.args.op c.args.a.now c.args.atoms.now) (Err c.in_err-here.field-0.0) (sym (some_turn c.args.op c.args.a.now c.args.atoms.now c.loop-b.b-index c.b-item.result c.loop-b-test.true c.b-item.is) ∙ c.loop-b.invariant)
-    (gives_stops (compare_atoms c.args.op c.args.a.now c.b-item.result) (λ here. cond here (Known true) (meets_some c.args.op c.args.a.now (drop (c.loop-b.b-index + 1) c.args.atoms.now))) c.in_err-here.field-0.0 c.in_err-here.ensures))
+    (gives_same (compare_atoms c.args.op c.args.a.now c.b-item.result >>= λ here. cond here (Known true)
+    (meets_some c.args.op c.args.a.now (drop (c.loop-b.b-index + 1) c.args.atoms.now))) (meets_some c.args.op c.args.a.now c.args.atoms.now) (Err c.in_err-here.field-0.0)
+    (sym (some_turn c.args.op c.args.a.now c.args.atoms.now c.loop-b.b-index c.b-item.result c.loop-b-test.true c.b-item.is) ∙ c.loop-b.invariant)
+    (gives_stops (compare_atoms c.args.op c.args.a.now c.b-item.result)
+    (λ here. cond here (Known true) (meets_some c.args.op c.args.a.now (drop (c.loop-b.b-index + 1) c.args.atoms.now))) c.in_err-here.field-0.0 c.in_err-here.ensures))
 
 pub returns-then-here : goal.returns-then-here
 returns-then-here c = sym c.loop-b.invariant ∙ some_turn c.args.op c.args.a.now c.args.atoms.now c.loop-b.b-index c.b-item.result c.loop-b-test.true c.b-item.is

@@ -25,16 +25,20 @@ returns-in_err-b-clause-moves g c = moves_on _ _ _ c.loop-node.invariant.moved c
 
 pub returns-in_err-b-clause-answers : goal.returns-in_err-b-clause-answers
 returns-in_err-b-clause-answers g c = λ lookups. says_exit c.from_residual.result c.from_residual.ensures.1
-    (leaves_stops (λ R b. compare_atoms c.args.op c.args.a.now b >>= λ here. cond here (Known None) (meeting c.args.op R c.args.a.now (drop (c.loop-node.node-index + 1) c.args.nodes.now) (c.loop-node.atoms ++ b ∷ [])))
-    (c.loop-node.invariant.leaves lookups) (λ R. meeting_turns c.args.op R c.args.a.now c.args.nodes.now c.loop-node.node-index c.loop-node.atoms c.loop-node-test.true) c.in_err-b.ensures.moves (c.in_err-b.ensures.answers lookups))
+    (leaves_stops (λ R b. compare_atoms c.args.op c.args.a.now b >>= λ here. cond here (Known None)
+    (meeting c.args.op R c.args.a.now (drop (c.loop-node.node-index + 1) c.args.nodes.now) (c.loop-node.atoms ++ b ∷ [])))
+    (c.loop-node.invariant.leaves lookups)
+    (λ R. meeting_turns c.args.op R c.args.a.now c.args.nodes.now c.loop-node.node-index c.loop-node.atoms c.loop-node-test.true) c.in_err-b.ensures.moves (c.in_err-b.ensures.answers lookups))
 
 pub returns-in_err-here-clause-moves : goal.returns-in_err-here-clause-moves
 returns-in_err-here-clause-moves g c = moves_on _ _ _ c.loop-node.invariant.moved c.in_ok-b.ensures.moves
 
 pub returns-in_err-here-clause-answers : goal.returns-in_err-here-clause-answers
 returns-in_err-here-clause-answers g c = λ lookups. says_exit c.from_residual-in_err-here.result c.from_residual-in_err-here.ensures.1
-    (leaves_fails (compare_atoms c.args.op c.args.a.now c.in_ok-b.b) (λ R here. cond here (Known None) (meeting c.args.op R c.args.a.now (drop (c.loop-node.node-index + 1) c.args.nodes.now) (c.loop-node.atoms ++ c.in_ok-b.b ∷ [])))
-    (leaves_on (λ R b. compare_atoms c.args.op c.args.a.now b >>= λ here. cond here (Known None) (meeting c.args.op R c.args.a.now (drop (c.loop-node.node-index + 1) c.args.nodes.now) (c.loop-node.atoms ++ b ∷ [])))
+    (leaves_fails (compare_atoms c.args.op c.args.a.now c.in_ok-b.b)
+    (λ R here. cond here (Known None) (meeting c.args.op R c.args.a.now (drop (c.loop-node.node-index + 1) c.args.nodes.now) (c.loop-node.atoms ++ c.in_ok-b.b ∷ [])))
+    (leaves_on (λ R b. compare_atoms c.args.op c.args.a.now b >>= λ here. cond here (Known None)
+    (meeting c.args.op R c.args.a.now (drop (c.loop-node.node-index + 1) c.args.nodes.now) (c.loop-node.atoms ++ b ∷ [])))
     (c.loop-node.invariant.leaves lookups) (λ R. meeting_turns c.args.op R c.args.a.now c.args.nodes.now c.loop-node.node-index c.loop-node.atoms c.loop-node-test.true)
     (keeps_atom (get_or c.args.nodes.now c.loop-node.node-index 0)) c.in_ok-b.ensures.moves (c.in_ok-b.ensures.answers lookups))
     (λ R. refl) (moves_none _ c.in_ok-b.ensures.moves.seen) c.in_err-here.ensures)
@@ -44,26 +48,31 @@ returns-then-here-clause-moves g c = moves_on _ _ _ c.loop-node.invariant.moved 
 
 pub returns-then-here-clause-answers : goal.returns-then-here-clause-answers
 returns-then-here-clause-answers g c = λ lookups. leaves_end
-    (leaves_on (λ R b. compare_atoms c.args.op c.args.a.now b >>= λ here. cond here (Known None) (meeting c.args.op R c.args.a.now (drop (c.loop-node.node-index + 1) c.args.nodes.now) (c.loop-node.atoms ++ b ∷ [])))
+    (leaves_on (λ R b. compare_atoms c.args.op c.args.a.now b >>= λ here. cond here (Known None)
+    (meeting c.args.op R c.args.a.now (drop (c.loop-node.node-index + 1) c.args.nodes.now) (c.loop-node.atoms ++ b ∷ [])))
     (c.loop-node.invariant.leaves lookups) (λ R. meeting_turns c.args.op R c.args.a.now c.args.nodes.now c.loop-node.node-index c.loop-node.atoms c.loop-node-test.true)
     (keeps_atom (get_or c.args.nodes.now c.loop-node.node-index 0)) c.in_ok-b.ensures.moves (c.in_ok-b.ensures.answers lookups))
     (moves_none _ c.in_ok-b.ensures.moves.seen)
-    (λ R. ap (λ o. o >>= λ here. cond here (Known None) (meeting c.args.op R c.args.a.now (drop (c.loop-node.node-index + 1) c.args.nodes.now) (c.loop-node.atoms ++ c.in_ok-b.b ∷ []))) (c.in_ok-here.ensures ∙ ap Known c.if-here.true))
+    (λ R. ap (λ o. o >>= λ here. cond here (Known None)
+    (meeting c.args.op R c.args.a.now (drop (c.loop-node.node-index + 1) c.args.nodes.now) (c.loop-node.atoms ++ c.in_ok-b.b ∷ []))) (c.in_ok-here.ensures ∙ ap Known c.if-here.true))
 
 pub returns-in_err-push-clause-moves : goal.returns-in_err-push-clause-moves
 returns-in_err-push-clause-moves g c = moves_on _ _ _ c.loop-node.invariant.moved c.in_ok-b.ensures.moves
 
 pub returns-in_err-push-clause-answers : goal.returns-in_err-push-clause-answers
-returns-in_err-push-clause-answers g c = λ lookups. says_exit c.from_residual-in_err-push.result c.from_residual-in_err-push.ensures.1 (leaves_memory (c.loop-node.invariant.leaves lookups) c.in_ok-b.ensures.moves)
+returns-in_err-push-clause-answers g c =
+    λ lookups. says_exit c.from_residual-in_err-push.result c.from_residual-in_err-push.ensures.1 (leaves_memory (c.loop-node.invariant.leaves lookups) c.in_ok-b.ensures.moves)
 
 pub loop-node-preserved : goal.loop-node-preserved
 loop-node-preserved g c = record {
   moved = moves_on _ _ _ c.loop-node.invariant.moved c.in_ok-b.ensures.moves;
   joined = all_on _ _ _ c.in_ok-b.ensures.moves.grows c.loop-node.invariant.joined;
   leaves = λ lookups. leaves_same
-      (λ R. ap (λ o. o >>= λ here. cond here (Known None) (meeting c.args.op R c.args.a.now (drop (c.loop-node.node-index + 1) c.args.nodes.now) (c.loop-node.atoms ++ c.in_ok-b.b ∷ []))) (c.in_ok-here.ensures ∙ ap Known c.if-here.false)
+      (λ R. ap (λ o. o >>= λ here. cond here (Known None)
+      (meeting c.args.op R c.args.a.now (drop (c.loop-node.node-index + 1) c.args.nodes.now) (c.loop-node.atoms ++ c.in_ok-b.b ∷ []))) (c.in_ok-here.ensures ∙ ap Known c.if-here.false)
       ∙ ap (meeting c.args.op R c.args.a.now (drop (c.loop-node.node-index + 1) c.args.nodes.now)) (sym c.in_ok-push.ensures.ok))
-      (leaves_on (λ R b. compare_atoms c.args.op c.args.a.now b >>= λ here. cond here (Known None) (meeting c.args.op R c.args.a.now (drop (c.loop-node.node-index + 1) c.args.nodes.now) (c.loop-node.atoms ++ b ∷ [])))
+      (leaves_on (λ R b. compare_atoms c.args.op c.args.a.now b >>= λ here. cond here (Known None)
+      (meeting c.args.op R c.args.a.now (drop (c.loop-node.node-index + 1) c.args.nodes.now) (c.loop-node.atoms ++ b ∷ [])))
       (c.loop-node.invariant.leaves lookups) (λ R. meeting_turns c.args.op R c.args.a.now c.args.nodes.now c.loop-node.node-index c.loop-node.atoms c.loop-node-test.true)
       (keeps_atom (get_or c.args.nodes.now c.loop-node.node-index 0)) c.in_ok-b.ensures.moves (c.in_ok-b.ensures.answers lookups));
 }
@@ -72,4 +81,5 @@ pub returns-clause-moves : goal.returns-clause-moves
 returns-clause-moves g c = c.loop-node.invariant.moved
 
 pub returns-clause-answers : goal.returns-clause-answers
-returns-clause-answers g c = λ lookups. leaves_end (c.loop-node.invariant.leaves lookups) (moves_none _ c.loop-node.invariant.moved.seen) (λ R. meeting_ends c.args.op R c.args.a.now c.args.nodes.now c.loop-node.node-index c.loop-node.atoms c.loop-node-test.false)
+returns-clause-answers g c = λ lookups. leaves_end (c.loop-node.invariant.leaves lookups) (moves_none _ c.loop-node.invariant.moved.seen)
+    (λ R. meeting_ends c.args.op R c.args.a.now c.args.nodes.now c.loop-node.node-index c.loop-node.atoms c.loop-node-test.false)

@@ -11,5 +11,6 @@ abbrev pub invariant-loop-node : goal.invariant-loop-node
 invariant-loop-node g l = record {
   moved : Moves (g.V.NodeView.sees l.fn.view) (g.V.NodeView.sees l.view);
   joined : AllJoined (g.V.NodeView.sees l.view).steps l.nodes;
-  leaves : (lookups : Lookups) → Leaves lookups (g.V.NodeView.sees l.fn.view) (g.V.NodeView.sees l.view) (λ R. meeting l.op R l.a (drop l.node-index l.nodes) l.atoms) (λ R. none_met l.op R l.a l.nodes);
+  leaves : (lookups : Lookups) → Leaves lookups (g.V.NodeView.sees l.fn.view) (g.V.NodeView.sees l.view) (λ R. meeting l.op R l.a (drop l.node-index l.nodes) l.atoms)
+      (λ R. none_met l.op R l.a l.nodes);
 }

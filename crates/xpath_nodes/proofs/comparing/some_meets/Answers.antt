@@ -26,7 +26,8 @@ returns-in_err-a-clause-moves g c = moves_on _ _ _ c.loop-node.invariant.moved c
 
 pub returns-in_err-a-clause-answers : goal.returns-in_err-a-clause-answers
 returns-in_err-a-clause-answers g c = λ lookups. says_exit c.from_residual.result c.from_residual.ensures.1
-    (leaves_stops (λ R a. meets_some c.args.op a c.args.atoms.now >>= λ here. cond here (Known true) (some_meets c.args.op R c.args.atoms.now (drop (c.loop-node.node-index + 1) c.args.nodes.now))) (c.loop-node.invariant.leaves lookups)
+    (leaves_stops (λ R a. meets_some c.args.op a c.args.atoms.now >>= λ here. cond here (Known true)
+    (some_meets c.args.op R c.args.atoms.now (drop (c.loop-node.node-index + 1) c.args.nodes.now))) (c.loop-node.invariant.leaves lookups)
     (λ R. meets_turns c.args.op R c.args.atoms.now c.args.nodes.now c.loop-node.node-index c.loop-node-test.true) c.in_err-a.ensures.moves (c.in_err-a.ensures.answers lookups))
 
 pub returns-in_err-here-clause-moves : goal.returns-in_err-here-clause-moves
@@ -35,8 +36,10 @@ returns-in_err-here-clause-moves g c = moves_on _ _ _ c.loop-node.invariant.move
 pub returns-in_err-here-clause-answers : goal.returns-in_err-here-clause-answers
 returns-in_err-here-clause-answers g c = λ lookups. says_exit c.from_residual-in_err-here.result c.from_residual-in_err-here.ensures.1
     (leaves_fails (meets_some c.args.op c.in_ok-a.a c.args.atoms.now) (λ R here. cond here (Known true) (some_meets c.args.op R c.args.atoms.now (drop (c.loop-node.node-index + 1) c.args.nodes.now)))
-    (leaves_on (λ R a. meets_some c.args.op a c.args.atoms.now >>= λ here. cond here (Known true) (some_meets c.args.op R c.args.atoms.now (drop (c.loop-node.node-index + 1) c.args.nodes.now))) (c.loop-node.invariant.leaves lookups)
-    (λ R. meets_turns c.args.op R c.args.atoms.now c.args.nodes.now c.loop-node.node-index c.loop-node-test.true) (keeps_atom (get_or c.args.nodes.now c.loop-node.node-index 0)) c.in_ok-a.ensures.moves (c.in_ok-a.ensures.answers lookups))
+    (leaves_on (λ R a. meets_some c.args.op a c.args.atoms.now >>= λ here. cond here (Known true)
+    (some_meets c.args.op R c.args.atoms.now (drop (c.loop-node.node-index + 1) c.args.nodes.now))) (c.loop-node.invariant.leaves lookups)
+    (λ R. meets_turns c.args.op R c.args.atoms.now c.args.nodes.now c.loop-node.node-index c.loop-node-test.true)
+    (keeps_atom (get_or c.args.nodes.now c.loop-node.node-index 0)) c.in_ok-a.ensures.moves (c.in_ok-a.ensures.answers lookups))
     (λ R. refl) (moves_none _ c.in_ok-a.ensures.moves.seen) c.in_err-here.ensures)
 
 pub returns-then-here-clause-moves : goal.returns-then-here-clause-moves
@@ -44,21 +47,30 @@ returns-then-here-clause-moves g c = moves_on _ _ _ c.loop-node.invariant.moved 
 
 pub returns-then-here-clause-answers : goal.returns-then-here-clause-answers
 returns-then-here-clause-answers g c = λ lookups. leaves_end
-    (leaves_on (λ R a. meets_some c.args.op a c.args.atoms.now >>= λ here. cond here (Known true) (some_meets c.args.op R c.args.atoms.now (drop (c.loop-node.node-index + 1) c.args.nodes.now))) (c.loop-node.invariant.leaves lookups)
-    (λ R. meets_turns c.args.op R c.args.atoms.now c.args.nodes.now c.loop-node.node-index c.loop-node-test.true) (keeps_atom (get_or c.args.nodes.now c.loop-node.node-index 0)) c.in_ok-a.ensures.moves (c.in_ok-a.ensures.answers lookups))
-    (moves_none _ c.in_ok-a.ensures.moves.seen) (λ R. ap (λ o. o >>= λ here. cond here (Known true) (some_meets c.args.op R c.args.atoms.now (drop (c.loop-node.node-index + 1) c.args.nodes.now))) (c.in_ok-here.ensures ∙ ap Known c.if-here.true))
+    (leaves_on (λ R a. meets_some c.args.op a c.args.atoms.now >>= λ here. cond here (Known true)
+    (some_meets c.args.op R c.args.atoms.now (drop (c.loop-node.node-index + 1) c.args.nodes.now))) (c.loop-node.invariant.leaves lookups)
+    (λ R. meets_turns c.args.op R c.args.atoms.now c.args.nodes.now c.loop-node.node-index c.loop-node-test.true)
+    (keeps_atom (get_or c.args.nodes.now c.loop-node.node-index 0)) c.in_ok-a.ensures.moves (c.in_ok-a.ensures.answers lookups))
+    (moves_none _ c.in_ok-a.ensures.moves.seen)
+    (λ R. ap (λ o. o >>= λ here. cond here (Known true) (some_meets c.args.op R c.args.atoms.now (drop (c.loop-node.node-index + 1) c.args.nodes.now)))
+    (c.in_ok-here.ensures ∙ ap Known c.if-here.true))
 
 pub loop-node-preserved : goal.loop-node-preserved
 loop-node-preserved g c = record {
   moved = moves_on _ _ _ c.loop-node.invariant.moved c.in_ok-a.ensures.moves;
   joined = all_on _ _ _ c.in_ok-a.ensures.moves.grows c.loop-node.invariant.joined;
-  leaves = λ lookups. leaves_same (λ R. ap (λ o. o >>= λ here. cond here (Known true) (some_meets c.args.op R c.args.atoms.now (drop (c.loop-node.node-index + 1) c.args.nodes.now))) (c.in_ok-here.ensures ∙ ap Known c.if-here.false))
-      (leaves_on (λ R a. meets_some c.args.op a c.args.atoms.now >>= λ here. cond here (Known true) (some_meets c.args.op R c.args.atoms.now (drop (c.loop-node.node-index + 1) c.args.nodes.now))) (c.loop-node.invariant.leaves lookups)
-      (λ R. meets_turns c.args.op R c.args.atoms.now c.args.nodes.now c.loop-node.node-index c.loop-node-test.true) (keeps_atom (get_or c.args.nodes.now c.loop-node.node-index 0)) c.in_ok-a.ensures.moves (c.in_ok-a.ensures.answers lookups));
+  leaves = λ lookups. leaves_same
+      (λ R. ap (λ o. o >>= λ here. cond here (Known true) (some_meets c.args.op R c.args.atoms.now (drop (c.loop-node.node-index + 1) c.args.nodes.now)))
+      (c.in_ok-here.ensures ∙ ap Known c.if-here.false))
+      (leaves_on (λ R a. meets_some c.args.op a c.args.atoms.now >>= λ here. cond here (Known true)
+      (some_meets c.args.op R c.args.atoms.now (drop (c.loop-node.node-index + 1) c.args.nodes.now))) (c.loop-node.invariant.leaves lookups)
+      (λ R. meets_turns c.args.op R c.args.atoms.now c.args.nodes.now c.loop-node.node-index c.loop-node-test.true)
+      (keeps_atom (get_or c.args.nodes.now c.loop-node.node-index 0)) c.in_ok-a.ensures.moves (c.in_ok-a.ensures.answers lookups));
 }
 
 pub returns-clause-moves : goal.returns-clause-moves
 returns-clause-moves g c = c.loop-node.invariant.moved
 
 pub returns-clause-answers : goal.returns-clause-answers
-returns-clause-answers g c = λ lookups. leaves_end (c.loop-node.invariant.leaves lookups) (moves_none _ c.loop-node.invariant.moved.seen) (λ R. meets_ends c.args.op R c.args.atoms.now c.args.nodes.now c.loop-node.node-index c.loop-node-test.false)
+returns-clause-answers g c = λ lookups. leaves_end (c.loop-node.invariant.leaves lookups) (moves_none _ c.loop-node.invariant.moved.seen)
+    (λ R. meets_ends c.args.op R c.args.atoms.now c.args.nodes.now c.loop-node.node-index c.loop-node-test.false)

@@ -10,5 +10,6 @@ abbrev pub invariant-loop-node : goal.invariant-loop-node
 invariant-loop-node g l = record {
   moved : Moves (g.V.NodeView.sees l.fn.view) (g.V.NodeView.sees l.view);
   joined : AllJoined (g.V.NodeView.sees l.view).steps l.nodes;
-  leaves : (lookups : Lookups) → Leaves lookups (g.V.NodeView.sees l.fn.view) (g.V.NodeView.sees l.view) (λ R. some_meets l.op R l.atoms (drop l.node-index l.nodes)) (λ R. some_meets l.op R l.atoms l.nodes);
+  leaves : (lookups : Lookups) → Leaves lookups (g.V.NodeView.sees l.fn.view) (g.V.NodeView.sees l.view) (λ R. some_meets l.op R l.atoms (drop l.node-index l.nodes))
+      (λ R. some_meets l.op R l.atoms l.nodes);
 }

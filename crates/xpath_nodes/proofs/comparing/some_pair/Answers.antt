@@ -24,5 +24,6 @@ pub some_pair_from-requires-clause-right : goal.some_pair_from-requires-clause-r
 some_pair_from-requires-clause-right g c = all_on _ _ _ c.told.ensures.grows c.requires.right
 
 pub returns-in-len1-up-clause-answers : goal.returns-in-len1-up-clause-answers
-returns-in-len1-up-clause-answers g c = λ lookups. says_same (λ R. ap (λ left. some_holds (compare_pair c.args.op R) (pairs left c.args.right.now)) (cut_first c.args.left.now c.in-len1-up.len_at_least))
+returns-in-len1-up-clause-answers g c =
+    λ lookups. says_same (λ R. ap (λ left. some_holds (compare_pair c.args.op R) (pairs left c.args.right.now)) (cut_first c.args.left.now c.in-len1-up.len_at_least))
     (says_after c.told.ensures (c.some_pair_from.ensures.answers lookups))

@@ -26,7 +26,8 @@ returns-in_err-b-clause-moves g c = moves_on _ _ _ c.loop-node.invariant.moved c
 
 pub returns-in_err-b-clause-answers : goal.returns-in_err-b-clause-answers
 returns-in_err-b-clause-answers g c = λ lookups. says_exit c.from_residual.result c.from_residual.ensures.1
-    (leaves_stops (λ R b. compare_atoms c.args.op c.args.a.now b >>= λ here. cond here (Known true) (some_right c.args.op R c.args.a.now (drop (c.loop-node.node-index + 1) c.args.nodes.now))) (c.loop-node.invariant.leaves lookups)
+    (leaves_stops (λ R b. compare_atoms c.args.op c.args.a.now b >>= λ here. cond here (Known true)
+    (some_right c.args.op R c.args.a.now (drop (c.loop-node.node-index + 1) c.args.nodes.now))) (c.loop-node.invariant.leaves lookups)
     (λ R. right_turns c.args.op R c.args.a.now c.args.nodes.now c.loop-node.node-index c.loop-node-test.true) c.in_err-b.ensures.moves (c.in_err-b.ensures.answers lookups))
 
 pub returns-in_err-here-clause-moves : goal.returns-in_err-here-clause-moves
@@ -35,8 +36,10 @@ returns-in_err-here-clause-moves g c = moves_on _ _ _ c.loop-node.invariant.move
 pub returns-in_err-here-clause-answers : goal.returns-in_err-here-clause-answers
 returns-in_err-here-clause-answers g c = λ lookups. says_exit c.from_residual-in_err-here.result c.from_residual-in_err-here.ensures.1
     (leaves_fails (compare_atoms c.args.op c.args.a.now c.in_ok-b.b) (λ R here. cond here (Known true) (some_right c.args.op R c.args.a.now (drop (c.loop-node.node-index + 1) c.args.nodes.now)))
-    (leaves_on (λ R b. compare_atoms c.args.op c.args.a.now b >>= λ here. cond here (Known true) (some_right c.args.op R c.args.a.now (drop (c.loop-node.node-index + 1) c.args.nodes.now))) (c.loop-node.invariant.leaves lookups)
-    (λ R. right_turns c.args.op R c.args.a.now c.args.nodes.now c.loop-node.node-index c.loop-node-test.true) (keeps_atom (get_or c.args.nodes.now c.loop-node.node-index 0)) c.in_ok-b.ensures.moves (c.in_ok-b.ensures.answers lookups))
+    (leaves_on (λ R b. compare_atoms c.args.op c.args.a.now b >>= λ here. cond here (Known true)
+    (some_right c.args.op R c.args.a.now (drop (c.loop-node.node-index + 1) c.args.nodes.now))) (c.loop-node.invariant.leaves lookups)
+    (λ R. right_turns c.args.op R c.args.a.now c.args.nodes.now c.loop-node.node-index c.loop-node-test.true)
+    (keeps_atom (get_or c.args.nodes.now c.loop-node.node-index 0)) c.in_ok-b.ensures.moves (c.in_ok-b.ensures.answers lookups))
     (λ R. refl) (moves_none _ c.in_ok-b.ensures.moves.seen) c.in_err-here.ensures)
 
 pub returns-then-here-clause-moves : goal.returns-then-here-clause-moves
@@ -44,21 +47,29 @@ returns-then-here-clause-moves g c = moves_on _ _ _ c.loop-node.invariant.moved 
 
 pub returns-then-here-clause-answers : goal.returns-then-here-clause-answers
 returns-then-here-clause-answers g c = λ lookups. leaves_end
-    (leaves_on (λ R b. compare_atoms c.args.op c.args.a.now b >>= λ here. cond here (Known true) (some_right c.args.op R c.args.a.now (drop (c.loop-node.node-index + 1) c.args.nodes.now))) (c.loop-node.invariant.leaves lookups)
-    (λ R. right_turns c.args.op R c.args.a.now c.args.nodes.now c.loop-node.node-index c.loop-node-test.true) (keeps_atom (get_or c.args.nodes.now c.loop-node.node-index 0)) c.in_ok-b.ensures.moves (c.in_ok-b.ensures.answers lookups))
-    (moves_none _ c.in_ok-b.ensures.moves.seen) (λ R. ap (λ o. o >>= λ here. cond here (Known true) (some_right c.args.op R c.args.a.now (drop (c.loop-node.node-index + 1) c.args.nodes.now))) (c.in_ok-here.ensures ∙ ap Known c.if-here.true))
+    (leaves_on (λ R b. compare_atoms c.args.op c.args.a.now b >>= λ here. cond here (Known true)
+    (some_right c.args.op R c.args.a.now (drop (c.loop-node.node-index + 1) c.args.nodes.now))) (c.loop-node.invariant.leaves lookups)
+    (λ R. right_turns c.args.op R c.args.a.now c.args.nodes.now c.loop-node.node-index c.loop-node-test.true)
+    (keeps_atom (get_or c.args.nodes.now c.loop-node.node-index 0)) c.in_ok-b.ensures.moves (c.in_ok-b.ensures.answers lookups))
+    (moves_none _ c.in_ok-b.ensures.moves.seen)
+    (λ R. ap (λ o. o >>= λ here. cond here (Known true) (some_right c.args.op R c.args.a.now (drop (c.loop-node.node-index + 1) c.args.nodes.now)))
+    (c.in_ok-here.ensures ∙ ap Known c.if-here.true))
 
 pub loop-node-preserved : goal.loop-node-preserved
 loop-node-preserved g c = record {
   moved = moves_on _ _ _ c.loop-node.invariant.moved c.in_ok-b.ensures.moves;
   joined = all_on _ _ _ c.in_ok-b.ensures.moves.grows c.loop-node.invariant.joined;
-  leaves = λ lookups. leaves_same (λ R. ap (λ o. o >>= λ here. cond here (Known true) (some_right c.args.op R c.args.a.now (drop (c.loop-node.node-index + 1) c.args.nodes.now))) (c.in_ok-here.ensures ∙ ap Known c.if-here.false))
-      (leaves_on (λ R b. compare_atoms c.args.op c.args.a.now b >>= λ here. cond here (Known true) (some_right c.args.op R c.args.a.now (drop (c.loop-node.node-index + 1) c.args.nodes.now))) (c.loop-node.invariant.leaves lookups)
-      (λ R. right_turns c.args.op R c.args.a.now c.args.nodes.now c.loop-node.node-index c.loop-node-test.true) (keeps_atom (get_or c.args.nodes.now c.loop-node.node-index 0)) c.in_ok-b.ensures.moves (c.in_ok-b.ensures.answers lookups));
+  leaves = λ lookups. leaves_same
+      (λ R. ap (λ o. o >>= λ here. cond here (Known true) (some_right c.args.op R c.args.a.now (drop (c.loop-node.node-index + 1) c.args.nodes.now))) (c.in_ok-here.ensures ∙ ap Known c.if-here.false))
+      (leaves_on (λ R b. compare_atoms c.args.op c.args.a.now b >>= λ here. cond here (Known true)
+      (some_right c.args.op R c.args.a.now (drop (c.loop-node.node-index + 1) c.args.nodes.now))) (c.loop-node.invariant.leaves lookups)
+      (λ R. right_turns c.args.op R c.args.a.now c.args.nodes.now c.loop-node.node-index c.loop-node-test.true)
+      (keeps_atom (get_or c.args.nodes.now c.loop-node.node-index 0)) c.in_ok-b.ensures.moves (c.in_ok-b.ensures.answers lookups));
 }
 
 pub returns-clause-moves : goal.returns-clause-moves
 returns-clause-moves g c = c.loop-node.invariant.moved
 
 pub returns-clause-answers : goal.returns-clause-answers
-returns-clause-answers g c = λ lookups. leaves_end (c.loop-node.invariant.leaves lookups) (moves_none _ c.loop-node.invariant.moved.seen) (λ R. right_ends c.args.op R c.args.a.now c.args.nodes.now c.loop-node.node-index c.loop-node-test.false)
+returns-clause-answers g c = λ lookups. leaves_end (c.loop-node.invariant.leaves lookups) (moves_none _ c.loop-node.invariant.moved.seen)
+    (λ R. right_ends c.args.op R c.args.a.now c.args.nodes.now c.loop-node.node-index c.loop-node-test.false)

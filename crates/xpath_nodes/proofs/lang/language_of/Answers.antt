@@ -28,5 +28,6 @@ pub returns-clause-moves : goal.returns-clause-moves
 returns-clause-moves g c = moves_on _ _ _ c.in_ok-nodes.ensures.moves c.nearest_lang.ensures.moves
 
 pub returns-clause-answers : goal.returns-clause-answers
-returns-clause-answers g c = λ lookups. says_then (λ R nodes. nearest_lang R nodes) (keeps_axis axis.AncestorOrSelf test.Any c.args.n) c.in_ok-nodes.ensures.moves (c.in_ok-nodes.ensures.answers lookups)
+returns-clause-answers g c = λ lookups. says_then (λ R nodes. nearest_lang R nodes) (keeps_axis axis.AncestorOrSelf test.Any c.args.n) c.in_ok-nodes.ensures.moves
+    (c.in_ok-nodes.ensures.answers lookups)
     c.nearest_lang.ensures.moves (says_same (λ R. sym (ap (nearest_lang R) c.as_slice.ensures)) (c.nearest_lang.ensures.answers lookups))

@@ -35,7 +35,8 @@ node_text-requires g c =
     let t = g.V.NodeView.sees c.axis_nodes.new.view in
     let at = each_at _ _ _ c.loop-node.invariant.there c.loop-node-test.true in
     (first_there t.rules t.steps c.in_ok-found.found c.in-Some.attribute
-    (axis_held axis.Attribute c.args.test.now (get_or c.args.nodes.now c.loop-node.node-index 0) (there_on _ _ _ c.in_ok-found.ensures.moves at) (c.in_ok-found.ensures.answers any_lookups)) (sym c.in-Some.ensures)).0
+    (axis_held axis.Attribute c.args.test.now (get_or c.args.nodes.now c.loop-node.node-index 0) (there_on _ _ _ c.in_ok-found.ensures.moves at)
+    (c.in_ok-found.ensures.answers any_lookups)) (sym c.in-Some.ensures)).0
 
 pub loop-node-preserved : goal.loop-node-preserved
 loop-node-preserved g c = record {
@@ -43,7 +44,8 @@ loop-node-preserved g c = record {
   there = all_there_on _ _ _ c.in_ok-found.ensures.moves c.loop-node.invariant.there;
   leaves = λ lookups. leaves_same (λ R. ap (λ first. lang_here R first (nearest_lang R (drop (c.loop-node.node-index + 1) c.args.nodes.now))) (sym c.in_default.ensures))
       (leaves_on (λ R found. lang_here R (first_of found) (nearest_lang R (drop (c.loop-node.node-index + 1) c.args.nodes.now))) (c.loop-node.invariant.leaves lookups)
-      (λ R. lang_turns R c.args.nodes.now c.loop-node.node-index c.loop-node-test.true) (keeps_axis axis.Attribute lang_test (get_or c.args.nodes.now c.loop-node.node-index 0)) c.in_ok-found.ensures.moves
+      (λ R. lang_turns R c.args.nodes.now c.loop-node.node-index c.loop-node-test.true)
+      (keeps_axis axis.Attribute lang_test (get_or c.args.nodes.now c.loop-node.node-index 0)) c.in_ok-found.ensures.moves
       (says_same (λ R. sym (ap (λ test. R.axis axis.Attribute test (get_or c.args.nodes.now c.loop-node.node-index 0)) c.requires.test)) (c.in_ok-found.ensures.answers lookups)));
 }
 
@@ -54,9 +56,11 @@ pub returns-in_err-text-clause-answers : goal.returns-in_err-text-clause-answers
 returns-in_err-text-clause-answers g c = λ lookups. says_exit c.from_residual-in_err-text.result c.from_residual-in_err-text.ensures.1
     (leaves_stops (λ R bytes. Known (Some bytes))
     (leaves_on (λ R found. lang_here R (first_of found) (nearest_lang R (drop (c.loop-node.node-index + 1) c.args.nodes.now))) (c.loop-node.invariant.leaves lookups)
-    (λ R. lang_turns R c.args.nodes.now c.loop-node.node-index c.loop-node-test.true) (keeps_axis axis.Attribute lang_test (get_or c.args.nodes.now c.loop-node.node-index 0)) c.in_ok-found.ensures.moves
+    (λ R. lang_turns R c.args.nodes.now c.loop-node.node-index c.loop-node-test.true)
+    (keeps_axis axis.Attribute lang_test (get_or c.args.nodes.now c.loop-node.node-index 0)) c.in_ok-found.ensures.moves
     (says_same (λ R. sym (ap (λ test. R.axis axis.Attribute test (get_or c.args.nodes.now c.loop-node.node-index 0)) c.requires.test)) (c.in_ok-found.ensures.answers lookups)))
-    (λ R. ap (λ first. lang_here R first (nearest_lang R (drop (c.loop-node.node-index + 1) c.args.nodes.now))) (sym c.in-Some.ensures)) c.in_err-text.ensures.moves (c.in_err-text.ensures.answers lookups))
+    (λ R. ap (λ first. lang_here R first (nearest_lang R (drop (c.loop-node.node-index + 1) c.args.nodes.now))) (sym c.in-Some.ensures)) c.in_err-text.ensures.moves
+    (c.in_err-text.ensures.answers lookups))
 
 pub returns-in-Some-clause-moves : goal.returns-in-Some-clause-moves
 returns-in-Some-clause-moves g c = moves_on _ _ _ c.loop-node.invariant.moved (moves_on _ _ _ c.in_ok-found.ensures.moves c.in_ok-text.ensures.moves)
@@ -65,13 +69,16 @@ pub returns-in-Some-clause-answers : goal.returns-in-Some-clause-answers
 returns-in-Some-clause-answers g c = λ lookups. leaves_end
     (leaves_on (λ R bytes. Known (Some bytes))
     (leaves_on (λ R found. lang_here R (first_of found) (nearest_lang R (drop (c.loop-node.node-index + 1) c.args.nodes.now))) (c.loop-node.invariant.leaves lookups)
-    (λ R. lang_turns R c.args.nodes.now c.loop-node.node-index c.loop-node-test.true) (keeps_axis axis.Attribute lang_test (get_or c.args.nodes.now c.loop-node.node-index 0)) c.in_ok-found.ensures.moves
+    (λ R. lang_turns R c.args.nodes.now c.loop-node.node-index c.loop-node-test.true)
+    (keeps_axis axis.Attribute lang_test (get_or c.args.nodes.now c.loop-node.node-index 0)) c.in_ok-found.ensures.moves
     (says_same (λ R. sym (ap (λ test. R.axis axis.Attribute test (get_or c.args.nodes.now c.loop-node.node-index 0)) c.requires.test)) (c.in_ok-found.ensures.answers lookups)))
-    (λ R. ap (λ first. lang_here R first (nearest_lang R (drop (c.loop-node.node-index + 1) c.args.nodes.now))) (sym c.in-Some.ensures)) (keeps_value c.in-Some.attribute) c.in_ok-text.ensures.moves (c.in_ok-text.ensures.answers lookups))
+    (λ R. ap (λ first. lang_here R first (nearest_lang R (drop (c.loop-node.node-index + 1) c.args.nodes.now))) (sym c.in-Some.ensures))
+    (keeps_value c.in-Some.attribute) c.in_ok-text.ensures.moves (c.in_ok-text.ensures.answers lookups))
     (moves_none _ c.in_ok-text.ensures.moves.seen) (λ R. refl)
 
 pub returns-clause-moves : goal.returns-clause-moves
 returns-clause-moves g c = c.loop-node.invariant.moved
 
 pub returns-clause-answers : goal.returns-clause-answers
-returns-clause-answers g c = λ lookups. leaves_end (c.loop-node.invariant.leaves lookups) (moves_none _ c.loop-node.invariant.moved.seen) (λ R. lang_ends R c.args.nodes.now c.loop-node.node-index c.loop-node-test.false)
+returns-clause-answers g c = λ lookups. leaves_end (c.loop-node.invariant.leaves lookups) (moves_none _ c.loop-node.invariant.moved.seen)
+    (λ R. lang_ends R c.args.nodes.now c.loop-node.node-index c.loop-node-test.false)

@@ -6,7 +6,8 @@ use Rattle.key_sources.proofs.Saying.{says_failed, says_then_given}
 use Rattle.xpath_nodes.proofs.lang.speaks.Goals as goal
 
 pub returns-in_err-language-clause-answers : goal.returns-in_err-language-clause-answers
-returns-in_err-language-clause-answers g c = λ lookups. says_failed (λ R language. Known (speaks language c.args.asked.now)) c.from_residual.result c.from_residual.ensures.1 (c.in_err-language.ensures.answers lookups)
+returns-in_err-language-clause-answers g c =
+    λ lookups. says_failed (λ R language. Known (speaks language c.args.asked.now)) c.from_residual.result c.from_residual.ensures.1 (c.in_err-language.ensures.answers lookups)
 
 pub returns-in-Some-clause-answers : goal.returns-in-Some-clause-answers
 returns-in-Some-clause-answers g c = λ lookups. says_then_given (λ language. Known (speaks language c.args.asked.now)) _ c.in_ok-language.ensures.moves (c.in_ok-language.ensures.answers lookups)

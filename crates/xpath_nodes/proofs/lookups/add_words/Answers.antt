@@ -13,5 +13,6 @@ loop-byte-preserved c = words_turn c.loop-byte.all _ c.args.text.now c.loop-byte
 pub returns : goal.returns
 returns c = on_ok_weaker c.add_word.result
     (λ (e : c.add_word.new.all ≡ c.loop-byte.all ++ filter is_word (c.loop-byte.word ∷ [])).
-    e ∙ words_end c.loop-byte.all c.args.text.now c.loop-byte.byte-index c.loop-byte.word c.loop-byte-test.false ∙ c.loop-byte.invariant ∙ ap (λ ws. c.args.all.now ++ ws) (sym (words_start c.args.text.now)))
+    e ∙ words_end c.loop-byte.all c.args.text.now c.loop-byte.byte-index c.loop-byte.word c.loop-byte-test.false ∙ c.loop-byte.invariant
+    ∙ ap (λ ws. c.args.all.now ++ ws) (sym (words_start c.args.text.now)))
     c.add_word.ensures

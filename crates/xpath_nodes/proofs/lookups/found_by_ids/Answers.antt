@@ -19,7 +19,8 @@ pub loop-id-init : goal.loop-id-init
 loop-id-init g c = record {
   went = went_moves (g.met.K.KeySource.goes_on c.args.keys.now) c.in_ok-whole.ensures.moves c.requires;
   leaves = leaves_same (λ R. ap (finding (λ id. R.by_id id) c.args.ids.now) (sym c.new-nodes.ensures))
-      (leaves_on (λ R shut. finding (λ id. R.by_id id) c.args.ids.now []) (leaves_start (moves_none _ c.requires.seen) (λ R. refl)) (λ R. refl) keeps_whole c.in_ok-whole.ensures.moves (c.in_ok-whole.ensures.answers _));
+      (leaves_on (λ R shut. finding (λ id. R.by_id id) c.args.ids.now []) (leaves_start (moves_none _ c.requires.seen) (λ R. refl))
+      (λ R. refl) keeps_whole c.in_ok-whole.ensures.moves (c.in_ok-whole.ensures.answers _));
 }
 
 pub by_id-requires : goal.by_id-requires
@@ -39,7 +40,8 @@ loop-id-preserved g c = record {
   went = went_on c.loop-id.invariant.went c.in_ok-named.ensures.went;
   leaves = leaves_same (λ R. ap (finding (λ id. R.by_id id) (drop (c.loop-id.id-index + 1) c.args.ids.now)) (sym c.in_ok-append.ensures.ok))
       (leaves_on (λ R y. finding (λ id. R.by_id id) (drop (c.loop-id.id-index + 1) c.args.ids.now) (c.loop-id.nodes ++ y)) c.loop-id.invariant.leaves
-      (λ R. find_turns (λ id. R.by_id id) c.args.ids.now c.loop-id.id-index c.id-item.result c.loop-id.nodes c.loop-id-test.true c.id-item.is) (keeps_id c.id-item.result) c.in_ok-named.ensures.went.moves
+      (λ R. find_turns (λ id. R.by_id id) c.args.ids.now c.loop-id.id-index c.id-item.result c.loop-id.nodes c.loop-id-test.true c.id-item.is)
+      (keeps_id c.id-item.result) c.in_ok-named.ensures.went.moves
       (told c.loop-id.invariant.went.stays c.as_slice.ensures c.in_ok-named.ensures.answers));
 }
 
@@ -47,13 +49,15 @@ pub returns-in_err-append-clause-went : goal.returns-in_err-append-clause-went
 returns-in_err-append-clause-went g c = went_on c.loop-id.invariant.went c.in_ok-named.ensures.went
 
 pub returns-in_err-append-clause-answers : goal.returns-in_err-append-clause-answers
-returns-in_err-append-clause-answers g c = says_exit c.from_residual-in_err-append.result c.from_residual-in_err-append.ensures.1 (leaves_memory c.loop-id.invariant.leaves c.in_ok-named.ensures.went.moves)
+returns-in_err-append-clause-answers g c =
+    says_exit c.from_residual-in_err-append.result c.from_residual-in_err-append.ensures.1 (leaves_memory c.loop-id.invariant.leaves c.in_ok-named.ensures.went.moves)
 
 pub returns-in_err-nodes-clause-went : goal.returns-in_err-nodes-clause-went
 returns-in_err-nodes-clause-went g c = c.loop-id.invariant.went
 
 pub returns-in_err-nodes-clause-answers : goal.returns-in_err-nodes-clause-answers
-returns-in_err-nodes-clause-answers g c = says_exit c.from_residual-in_err-nodes.result c.from_residual-in_err-nodes.ensures.1 (leaves_memory c.loop-id.invariant.leaves (moves_none _ c.loop-id.invariant.went.moves.seen))
+returns-in_err-nodes-clause-answers g c =
+    says_exit c.from_residual-in_err-nodes.result c.from_residual-in_err-nodes.ensures.1 (leaves_memory c.loop-id.invariant.leaves (moves_none _ c.loop-id.invariant.went.moves.seen))
 
 pub returns-clause-went : goal.returns-clause-went
 returns-clause-went g c = c.loop-id.invariant.went

@@ -13,13 +13,15 @@ pub returns-in_err-whole-clause-went : goal.returns-in_err-whole-clause-went
 returns-in_err-whole-clause-went g c = went_moves (g.met.K.KeySource.goes_on c.args.keys.now) c.in_err-whole.ensures.moves c.requires
 
 pub returns-in_err-whole-clause-answers : goal.returns-in_err-whole-clause-answers
-returns-in_err-whole-clause-answers g c = says_failed (λ R shut. finding (λ value. R.by_key c.args.key value) c.args.values.now []) c.from_residual.result c.from_residual.ensures.1 (c.in_err-whole.ensures.answers _)
+returns-in_err-whole-clause-answers g c =
+    says_failed (λ R shut. finding (λ value. R.by_key c.args.key value) c.args.values.now []) c.from_residual.result c.from_residual.ensures.1 (c.in_err-whole.ensures.answers _)
 
 pub loop-value-init : goal.loop-value-init
 loop-value-init g c = record {
   went = went_moves (g.met.K.KeySource.goes_on c.args.keys.now) c.in_ok-whole.ensures.moves c.requires;
   leaves = leaves_same (λ R. ap (finding (λ value. R.by_key c.args.key value) c.args.values.now) (sym c.new-nodes.ensures))
-      (leaves_on (λ R shut. finding (λ value. R.by_key c.args.key value) c.args.values.now []) (leaves_start (moves_none _ c.requires.seen) (λ R. refl)) (λ R. refl) keeps_whole c.in_ok-whole.ensures.moves (c.in_ok-whole.ensures.answers _));
+      (leaves_on (λ R shut. finding (λ value. R.by_key c.args.key value) c.args.values.now []) (leaves_start (moves_none _ c.requires.seen) (λ R. refl))
+      (λ R. refl) keeps_whole c.in_ok-whole.ensures.moves (c.in_ok-whole.ensures.answers _));
 }
 
 pub by_key-requires : goal.by_key-requires
@@ -47,13 +49,15 @@ pub returns-in_err-append-clause-went : goal.returns-in_err-append-clause-went
 returns-in_err-append-clause-went g c = went_on c.loop-value.invariant.went c.in_ok-had.ensures.went
 
 pub returns-in_err-append-clause-answers : goal.returns-in_err-append-clause-answers
-returns-in_err-append-clause-answers g c = says_exit c.from_residual-in_err-append.result c.from_residual-in_err-append.ensures.1 (leaves_memory c.loop-value.invariant.leaves c.in_ok-had.ensures.went.moves)
+returns-in_err-append-clause-answers g c =
+    says_exit c.from_residual-in_err-append.result c.from_residual-in_err-append.ensures.1 (leaves_memory c.loop-value.invariant.leaves c.in_ok-had.ensures.went.moves)
 
 pub returns-in_err-nodes-clause-went : goal.returns-in_err-nodes-clause-went
 returns-in_err-nodes-clause-went g c = c.loop-value.invariant.went
 
 pub returns-in_err-nodes-clause-answers : goal.returns-in_err-nodes-clause-answers
-returns-in_err-nodes-clause-answers g c = says_exit c.from_residual-in_err-nodes.result c.from_residual-in_err-nodes.ensures.1 (leaves_memory c.loop-value.invariant.leaves (moves_none _ c.loop-value.invariant.went.moves.seen))
+returns-in_err-nodes-clause-answers g c =
+    says_exit c.from_residual-in_err-nodes.result c.from_residual-in_err-nodes.ensures.1 (leaves_memory c.loop-value.invariant.leaves (moves_none _ c.loop-value.invariant.went.moves.seen))
 
 pub returns-clause-went : goal.returns-clause-went
 returns-clause-went g c = c.loop-value.invariant.went

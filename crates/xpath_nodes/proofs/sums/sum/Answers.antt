@@ -34,20 +34,24 @@ pub returns-in_err-total-clause-answers : goal.returns-in_err-total-clause-answe
 returns-in_err-total-clause-answers g c = λ lookups. says_exit c.from_residual-in_err-total.result c.from_residual-in_err-total.ensures.1
     (leaves_fails (calculated (sum_of c.loop-node.total c.in_ok-number.number)) (λ R more. sum_onto R more (drop (c.loop-node.node-index + 1) c.args.nodes.now))
     (leaves_on (λ R x. calculated (sum_of c.loop-node.total x) >>= λ more. sum_onto R more (drop (c.loop-node.node-index + 1) c.args.nodes.now)) (c.loop-node.invariant.leaves lookups)
-    (λ R. sum_turns R c.args.nodes.now c.loop-node.node-index c.loop-node.total c.loop-node-test.true) (keeps_number (get_or c.args.nodes.now c.loop-node.node-index 0)) c.in_ok-number.ensures.moves (c.in_ok-number.ensures.answers lookups))
+    (λ R. sum_turns R c.args.nodes.now c.loop-node.node-index c.loop-node.total c.loop-node-test.true)
+    (keeps_number (get_or c.args.nodes.now c.loop-node.node-index 0)) c.in_ok-number.ensures.moves (c.in_ok-number.ensures.answers lookups))
     (λ R. refl) (moves_none _ c.in_ok-number.ensures.moves.seen) (given_by c.add.ensures.value (Err c.in_err-total.field-0.0) c.in_err-total.ensures))
 
 pub loop-node-preserved : goal.loop-node-preserved
 loop-node-preserved g c = record {
   moved = moves_on _ _ _ c.loop-node.invariant.moved c.in_ok-number.ensures.moves;
   joined = all_on _ _ _ c.in_ok-number.ensures.moves.grows c.loop-node.invariant.joined;
-  leaves = λ lookups. leaves_same (λ R. ap (λ o. o >>= λ more. sum_onto R more (drop (c.loop-node.node-index + 1) c.args.nodes.now)) (given_by c.add.ensures.value (Ok c.in_ok-total.total) c.in_ok-total.ensures))
+  leaves = λ lookups. leaves_same
+      (λ R. ap (λ o. o >>= λ more. sum_onto R more (drop (c.loop-node.node-index + 1) c.args.nodes.now)) (given_by c.add.ensures.value (Ok c.in_ok-total.total) c.in_ok-total.ensures))
       (leaves_on (λ R x. calculated (sum_of c.loop-node.total x) >>= λ more. sum_onto R more (drop (c.loop-node.node-index + 1) c.args.nodes.now)) (c.loop-node.invariant.leaves lookups)
-      (λ R. sum_turns R c.args.nodes.now c.loop-node.node-index c.loop-node.total c.loop-node-test.true) (keeps_number (get_or c.args.nodes.now c.loop-node.node-index 0)) c.in_ok-number.ensures.moves (c.in_ok-number.ensures.answers lookups));
+      (λ R. sum_turns R c.args.nodes.now c.loop-node.node-index c.loop-node.total c.loop-node-test.true)
+      (keeps_number (get_or c.args.nodes.now c.loop-node.node-index 0)) c.in_ok-number.ensures.moves (c.in_ok-number.ensures.answers lookups));
 }
 
 pub returns-clause-moves : goal.returns-clause-moves
 returns-clause-moves g c = c.loop-node.invariant.moved
 
 pub returns-clause-answers : goal.returns-clause-answers
-returns-clause-answers g c = λ lookups. leaves_end (c.loop-node.invariant.leaves lookups) (moves_none _ c.loop-node.invariant.moved.seen) (λ R. sum_ends R c.args.nodes.now c.loop-node.node-index c.loop-node.total c.loop-node-test.false)
+returns-clause-answers g c = λ lookups. leaves_end (c.loop-node.invariant.leaves lookups) (moves_none _ c.loop-node.invariant.moved.seen)
+    (λ R. sum_ends R c.args.nodes.now c.loop-node.node-index c.loop-node.total c.loop-node-test.false)

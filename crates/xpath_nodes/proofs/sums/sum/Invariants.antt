@@ -11,5 +11,6 @@ abbrev pub invariant-loop-node : goal.invariant-loop-node
 invariant-loop-node g l = record {
   moved : Moves (g.V.NodeView.sees l.fn.view) (g.V.NodeView.sees l.view);
   joined : AllJoined (g.V.NodeView.sees l.view).steps l.nodes;
-  leaves : (lookups : Lookups) → Leaves lookups (g.V.NodeView.sees l.fn.view) (g.V.NodeView.sees l.view) (λ R. sum_onto R l.total (drop l.node-index l.nodes)) (λ R. sum_onto R (Whole (pos 0)) l.nodes);
+  leaves : (lookups : Lookups) → Leaves lookups (g.V.NodeView.sees l.fn.view) (g.V.NodeView.sees l.view) (λ R. sum_onto R l.total (drop l.node-index l.nodes))
+      (λ R. sum_onto R (Whole (pos 0)) l.nodes);
 }

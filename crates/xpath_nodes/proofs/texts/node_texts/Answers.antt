@@ -45,10 +45,12 @@ pub returns-in_err-push-clause-moves : goal.returns-in_err-push-clause-moves
 returns-in_err-push-clause-moves g c = moves_on _ _ _ c.loop-node.invariant.moved c.in_ok-text.ensures.moves
 
 pub returns-in_err-push-clause-answers : goal.returns-in_err-push-clause-answers
-returns-in_err-push-clause-answers g c = λ lookups. says_exit c.from_residual-in_err-push.result c.from_residual-in_err-push.ensures.1 (leaves_memory (c.loop-node.invariant.leaves lookups) c.in_ok-text.ensures.moves)
+returns-in_err-push-clause-answers g c =
+    λ lookups. says_exit c.from_residual-in_err-push.result c.from_residual-in_err-push.ensures.1 (leaves_memory (c.loop-node.invariant.leaves lookups) c.in_ok-text.ensures.moves)
 
 pub returns-clause-moves : goal.returns-clause-moves
 returns-clause-moves g c = c.loop-node.invariant.moved
 
 pub returns-clause-answers : goal.returns-clause-answers
-returns-clause-answers g c = λ lookups. leaves_end (c.loop-node.invariant.leaves lookups) (moves_none _ c.loop-node.invariant.moved.seen) (λ R. each_ends (λ n. R.value n) c.args.nodes.now c.loop-node.node-index c.loop-node.texts c.loop-node-test.false)
+returns-clause-answers g c = λ lookups. leaves_end (c.loop-node.invariant.leaves lookups) (moves_none _ c.loop-node.invariant.moved.seen)
+    (λ R. each_ends (λ n. R.value n) c.args.nodes.now c.loop-node.node-index c.loop-node.texts c.loop-node-test.false)

@@ -11,5 +11,6 @@ abbrev pub invariant-loop-node : goal.invariant-loop-node
 invariant-loop-node g l = record {
   moved : Moves (g.V.NodeView.sees l.fn.view) (g.V.NodeView.sees l.view);
   joined : AllJoined (g.V.NodeView.sees l.view).steps l.nodes;
-  leaves : (lookups : Lookups) → Leaves lookups (g.V.NodeView.sees l.fn.view) (g.V.NodeView.sees l.view) (λ R. giving (λ n. R.value n) (drop l.node-index l.nodes) l.texts) (λ R. each_of (λ n. R.value n) l.nodes);
+  leaves : (lookups : Lookups) → Leaves lookups (g.V.NodeView.sees l.fn.view) (g.V.NodeView.sees l.view) (λ R. giving (λ n. R.value n) (drop l.node-index l.nodes) l.texts)
+      (λ R. each_of (λ n. R.value n) l.nodes);
 }

@@ -14,7 +14,9 @@ pub returns-in-Nodes-clause-answers : goal.returns-in-Nodes-clause-answers
 returns-in-Nodes-clause-answers g c = λ lookups. says_same (λ R. ap (texts_of R) c.in-Nodes.is ∙ ap (each_of (λ n. R.value n)) (sym c.as_slice.ensures)) (c.node_texts.ensures.answers lookups)
 
 pub returns-in-Atom-clause-answers : goal.returns-in-Atom-clause-answers
-returns-in-Atom-clause-answers g c = λ lookups. says_same (λ R. ap (texts_of R) c.in-Atom.is ∙ sym (ap (λ v. text_of R v >>= λ bytes. Known (bytes ∷ [])) c.in-Atom.is)) (c.one_text.ensures.answers lookups)
+returns-in-Atom-clause-answers g c =
+    λ lookups. says_same (λ R. ap (texts_of R) c.in-Atom.is ∙ sym (ap (λ v. text_of R v >>= λ bytes. Known (bytes ∷ [])) c.in-Atom.is)) (c.one_text.ensures.answers lookups)
 
 pub returns-in-Fragment-clause-answers : goal.returns-in-Fragment-clause-answers
-returns-in-Fragment-clause-answers g c = λ lookups. says_same (λ R. ap (texts_of R) c.in-Fragment.is ∙ sym (ap (λ v. text_of R v >>= λ bytes. Known (bytes ∷ [])) c.in-Fragment.is)) (c.one_text-in-Fragment.ensures.answers lookups)
+returns-in-Fragment-clause-answers g c =
+    λ lookups. says_same (λ R. ap (texts_of R) c.in-Fragment.is ∙ sym (ap (λ v. text_of R v >>= λ bytes. Known (bytes ∷ [])) c.in-Fragment.is)) (c.one_text-in-Fragment.ensures.answers lookups)

@@ -11,4 +11,5 @@ pub returns-clause-moves : goal.returns-clause-moves
 returns-clause-moves g c = moves_on _ _ _ c.shown.ensures.moves c.offer.ensures.moves
 
 pub returns-clause-rows : goal.returns-clause-rows
-returns-clause-rows g c = shown_then _ _ c.args.n c.args.test.now c.offer.result _ _ (joined_grows _ _ c.args.n c.shown.ensures.moves.grows c.requires.joined) (sym c.if-not-shown.ensures.value) c.offer.ensures.moves c.offer.ensures.rows
+returns-clause-rows g c = shown_then _ _ c.args.n c.args.test.now c.offer.result _ _ (joined_grows _ _ c.args.n c.shown.ensures.moves.grows c.requires.joined)
+    (sym c.if-not-shown.ensures.value) c.offer.ensures.moves c.offer.ensures.rows

@@ -29,7 +29,8 @@ loop-k-preserved g c =
       met = c.offer_plain.ensures.met;
       found =
           c.in_ok-offer_plain.ensures.rows ∙ ap (λ xs. xs ++ only_if (f k) k) (inv.found ∙ ap (λ xs. c.args.self.now.rows ++ xs) (sym (range_moves _ _ c.args.test.now c.args.from k m fits)))
-          ∙ append_assoc c.args.self.now.rows (filter f (numbers c.args.from (k - c.args.from))) (only_if (f k) k) ∙ ap (λ xs. c.args.self.now.rows ++ xs) (sym (range_on f c.args.from k (omega arith)));
+          ∙ append_assoc c.args.self.now.rows (filter f (numbers c.args.from (k - c.args.from))) (only_if (f k) k)
+          ∙ ap (λ xs. c.args.self.now.rows ++ xs) (sym (range_on f c.args.from k (omega arith)));
     }
 
 pub returns-clause-rows : goal.returns-clause-rows

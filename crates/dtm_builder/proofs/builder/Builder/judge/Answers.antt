@@ -26,7 +26,8 @@ judge_names-requires-clause-found c =
     let s = c.requires.3 in
     let answer = c.in-Ok.ensures.answer c.requires.0 before s.checked in
     let can = line_can c.requires.0 before c.args.line c.in-Ok.events answer.good answer.events in
-    subst (λ (found : List (Option ℕ)). AreFound (names_in c.args.self.now.writer) (element_rows c.in-Ok.events) found) (sym c.as_slice.ensures) (c.in_ok-found-in-Ok.ensures.found (uris_to before) s.recalled can.numbered)
+    subst (λ (found : List (Option ℕ)). AreFound (names_in c.args.self.now.writer) (element_rows c.in-Ok.events) found) (sym c.as_slice.ensures)
+    (c.in_ok-found-in-Ok.ensures.found (uris_to before) s.recalled can.numbered)
 
 pub judge_names-requires-clause-apart : goal.judge_names-requires-clause-apart
 judge_names-requires-clause-apart c =
@@ -50,7 +51,8 @@ recall-requires-in-Err-Refused c =
     let start = completed_start before c.args.line in
     let w = c.in-Err-Refused in
     let answer = w.ensures.answer c.requires.0 before c.requires.3.checked in
-    let handed : w.completed ≡ sound_node c.requires.0 before start = subst (λ (it : EventError). IfSome (completed_in it) (λ given. given ≡ sound_node c.requires.0 before start)) w.field-0-is answer.completed in
+    let handed : w.completed ≡ sound_node c.requires.0 before start =
+    subst (λ (it : EventError). IfSome (completed_in it) (λ given. given ≡ sound_node c.requires.0 before start)) w.field-0-is answer.completed in
     (uris_to before, (node_can c.requires.0 before start w.completed handed).numbered)
 
 pub judge_refused-requires-clause-found : goal.judge_refused-requires-clause-found
@@ -60,9 +62,11 @@ judge_refused-requires-clause-found c =
     let start = completed_start before c.args.line in
     let w = c.in-Err-Refused in
     let answer = w.ensures.answer c.requires.0 before s.checked in
-    let handed : w.completed ≡ sound_node c.requires.0 before start = subst (λ (it : EventError). IfSome (completed_in it) (λ given. given ≡ sound_node c.requires.0 before start)) w.field-0-is answer.completed in
+    let handed : w.completed ≡ sound_node c.requires.0 before start =
+    subst (λ (it : EventError). IfSome (completed_in it) (λ given. given ≡ sound_node c.requires.0 before start)) w.field-0-is answer.completed in
     let can = node_can c.requires.0 before start w.completed handed in
-    subst (λ (found : List (Option ℕ)). AreFound (names_in c.args.self.now.writer) (element_rows w.completed) found) (sym c.as_slice-in-Err-Refused.ensures) (c.in_ok-found-in-Err-Refused.ensures.found (uris_to before) s.recalled can.numbered)
+    subst (λ (found : List (Option ℕ)). AreFound (names_in c.args.self.now.writer) (element_rows w.completed) found) (sym c.as_slice-in-Err-Refused.ensures)
+    (c.in_ok-found-in-Err-Refused.ensures.found (uris_to before) s.recalled can.numbered)
 
 pub judge_refused-requires-clause-apart : goal.judge_refused-requires-clause-apart
 judge_refused-requires-clause-apart c =
@@ -70,15 +74,18 @@ judge_refused-requires-clause-apart c =
     let start = completed_start before c.args.line in
     let w = c.in-Err-Refused in
     let answer = w.ensures.answer c.requires.0 before c.requires.3.checked in
-    let handed : w.completed ≡ sound_node c.requires.0 before start = subst (λ (it : EventError). IfSome (completed_in it) (λ given. given ≡ sound_node c.requires.0 before start)) w.field-0-is answer.completed in
+    let handed : w.completed ≡ sound_node c.requires.0 before start =
+    subst (λ (it : EventError). IfSome (completed_in it) (λ given. given ≡ sound_node c.requires.0 before start)) w.field-0-is answer.completed in
     (node_can c.requires.0 before start w.completed handed).apart
 
 pub returns-in_ok-found-in-Err-Refused-clause-flaw : goal.returns-in_ok-found-in-Err-Refused-clause-flaw
 returns-in_ok-found-in-Err-Refused-clause-flaw c limits cells before s =
     let w = c.in-Err-Refused in
     let answer = w.ensures.answer limits before s.checked in
-    let refused : line_flaw limits true before c.args.line ≡ Some w.flaw = subst (λ (it : EventError). IfSome (flaw_in it) (λ first. line_flaw limits true before c.args.line ≡ Some first)) w.field-0-is answer.refused in
-    let handed : w.completed ≡ sound_node limits before (completed_start before c.args.line) = subst (λ (it : EventError). IfSome (completed_in it) (λ given. given ≡ sound_node limits before (completed_start before c.args.line))) w.field-0-is answer.completed in
+    let refused : line_flaw limits true before c.args.line ≡ Some w.flaw =
+    subst (λ (it : EventError). IfSome (flaw_in it) (λ first. line_flaw limits true before c.args.line ≡ Some first)) w.field-0-is answer.refused in
+    let handed : w.completed ≡ sound_node limits before (completed_start before c.args.line) =
+    subst (λ (it : EventError). IfSome (completed_in it) (λ given. given ≡ sound_node limits before (completed_start before c.args.line))) w.field-0-is answer.completed in
     line_refused_at limits before c.args.line w.flaw w.completed c.own_names-own.result c.judge_refused.result cells.steps c.text-text.result s.steps (c.text-text.ensures limits before s.checked)
     s.flawless refused handed (c.own_names-own.ensures limits cells s.written)
     (λ all adds. c.judge_refused.ensures limits cells all (record { limited = s.limited; written = s.written; names = names_stand c.args.self.now limits cells before s }) adds)
@@ -108,7 +115,8 @@ returns-in-Ok-judge_names-clause-names c limits cells before s =
     let line = c.args.line in
     let answer = c.in-Ok.ensures.answer limits before s.checked in
     let adds = own_stands before line c.in-Ok.events cells.steps c.own_names-own.result s.steps answer.events (c.own_names-own.ensures limits cells s.written) in
-    c.in-Ok-judge_names.ensures.names limits cells (names_of false (events_to (line ∷ before))) (record { limited = s.limited; written = s.written; names = names_stand c.args.self.now limits cells before s }) adds
+    c.in-Ok-judge_names.ensures.names limits cells (names_of false (events_to (line ∷ before)))
+    (record { limited = s.limited; written = s.written; names = names_stand c.args.self.now limits cells before s }) adds
 
 pub returns-in-Ok-judge_names-clause-checked : goal.returns-in-Ok-judge_names-clause-checked
 returns-in-Ok-judge_names-clause-checked c limits cells before s = c.in-Ok.ensures.taken limits before s.checked

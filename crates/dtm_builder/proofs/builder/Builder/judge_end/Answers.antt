@@ -21,7 +21,8 @@ recall-requires c =
     let before = c.requires.2 in
     let w = c.in-Err-Refused in
     let answer = w.ensures.answer c.requires.0 before c.requires.3.checked in
-    let handed : w.completed ≡ sound_node c.requires.0 before (pending_start before) = subst (λ (it : EventError). IfSome (completed_in it) (λ given. given ≡ sound_node c.requires.0 before (pending_start before))) w.field-0-is answer.completed in
+    let handed : w.completed ≡ sound_node c.requires.0 before (pending_start before) =
+    subst (λ (it : EventError). IfSome (completed_in it) (λ given. given ≡ sound_node c.requires.0 before (pending_start before))) w.field-0-is answer.completed in
     (uris_to before, (node_can c.requires.0 before (pending_start before) w.completed handed).numbered)
 
 pub judge_element-requires-clause-found : goal.judge_element-requires-clause-found
@@ -30,16 +31,19 @@ judge_element-requires-clause-found c =
     let s = c.requires.3 in
     let w = c.in-Err-Refused in
     let answer = w.ensures.answer c.requires.0 before s.checked in
-    let handed : w.completed ≡ sound_node c.requires.0 before (pending_start before) = subst (λ (it : EventError). IfSome (completed_in it) (λ given. given ≡ sound_node c.requires.0 before (pending_start before))) w.field-0-is answer.completed in
+    let handed : w.completed ≡ sound_node c.requires.0 before (pending_start before) =
+    subst (λ (it : EventError). IfSome (completed_in it) (λ given. given ≡ sound_node c.requires.0 before (pending_start before))) w.field-0-is answer.completed in
     let can = node_can c.requires.0 before (pending_start before) w.completed handed in
-    subst (λ (found : List (Option ℕ)). AreFound (names_in c.args.self.now.writer) (element_rows w.completed) found) (sym c.as_slice.ensures) (c.in_ok-found-in-Err-Refused.ensures.found (uris_to before) s.recalled can.numbered)
+    subst (λ (found : List (Option ℕ)). AreFound (names_in c.args.self.now.writer) (element_rows w.completed) found) (sym c.as_slice.ensures)
+    (c.in_ok-found-in-Err-Refused.ensures.found (uris_to before) s.recalled can.numbered)
 
 pub judge_element-requires-clause-apart : goal.judge_element-requires-clause-apart
 judge_element-requires-clause-apart c =
     let before = c.requires.2 in
     let w = c.in-Err-Refused in
     let answer = w.ensures.answer c.requires.0 before c.requires.3.checked in
-    let handed : w.completed ≡ sound_node c.requires.0 before (pending_start before) = subst (λ (it : EventError). IfSome (completed_in it) (λ given. given ≡ sound_node c.requires.0 before (pending_start before))) w.field-0-is answer.completed in
+    let handed : w.completed ≡ sound_node c.requires.0 before (pending_start before) =
+    subst (λ (it : EventError). IfSome (completed_in it) (λ given. given ≡ sound_node c.requires.0 before (pending_start before))) w.field-0-is answer.completed in
     (node_can c.requires.0 before (pending_start before) w.completed handed).apart
 
 pub returns-in-Ok-judge_element-clause-flaw : goal.returns-in-Ok-judge_element-clause-flaw
@@ -47,10 +51,12 @@ returns-in-Ok-judge_element-clause-flaw c limits cells before s =
     let w = c.in-Err-Refused in
     let answer = w.ensures.answer limits before s.checked in
     let refused : end_flaw limits true before ≡ Some w.flaw = subst (λ (it : EventError). IfSome (flaw_in it) (λ first. end_flaw limits true before ≡ Some first)) w.field-0-is answer.refused in
-    let handed : w.completed ≡ sound_node limits before (pending_start before) = subst (λ (it : EventError). IfSome (completed_in it) (λ given. given ≡ sound_node limits before (pending_start before))) w.field-0-is answer.completed in
+    let handed : w.completed ≡ sound_node limits before (pending_start before) =
+    subst (λ (it : EventError). IfSome (completed_in it) (λ given. given ≡ sound_node limits before (pending_start before))) w.field-0-is answer.completed in
     let is = end_refused_at limits before w.flaw w.completed cells.steps c.text-text.result s.steps (c.text-text.ensures limits before s.checked) s.flawless refused handed in
     let quiet : started_flaw limits (rows_of cells.steps) w.completed c.text-text.result ≡ None =
-    subst (λ (l : Limits). started_flaw l (rows_of cells.steps) w.completed c.text-text.result ≡ None) s.limited (c.in-Ok-judge_element.ensures.good limits cells s.written (names_stand c.args.self.now limits cells before s)) in
+    subst (λ (l : Limits). started_flaw l (rows_of cells.steps) w.completed c.text-text.result ≡ None) s.limited
+    (c.in-Ok-judge_element.ensures.good limits cells s.written (names_stand c.args.self.now limits cells before s)) in
     is ∙ ap (λ (it : Option Flaw). or_flaw it (Some w.flaw)) quiet
 
 pub returns-in-Err-Refused-clause-flaw : goal.returns-in-Err-Refused-clause-flaw
@@ -58,8 +64,10 @@ returns-in-Err-Refused-clause-flaw c limits cells before s =
     let w = c.in-Err-Refused in
     let answer = w.ensures.answer limits before s.checked in
     let refused : end_flaw limits true before ≡ Some w.flaw = subst (λ (it : EventError). IfSome (flaw_in it) (λ first. end_flaw limits true before ≡ Some first)) w.field-0-is answer.refused in
-    let handed : w.completed ≡ sound_node limits before (pending_start before) = subst (λ (it : EventError). IfSome (completed_in it) (λ given. given ≡ sound_node limits before (pending_start before))) w.field-0-is answer.completed in
+    let handed : w.completed ≡ sound_node limits before (pending_start before) =
+    subst (λ (it : EventError). IfSome (completed_in it) (λ given. given ≡ sound_node limits before (pending_start before))) w.field-0-is answer.completed in
     let is = end_refused_at limits before w.flaw w.completed cells.steps c.text-text.result s.steps (c.text-text.ensures limits before s.checked) s.flawless refused handed in
     let first : started_flaw limits (rows_of cells.steps) w.completed c.text-text.result ≡ Some c.in-Err.first =
-    subst (λ (l : Limits). started_flaw l (rows_of cells.steps) w.completed c.text-text.result ≡ Some c.in-Err.first) s.limited (c.in-Err.ensures.flaw limits cells s.written (names_stand c.args.self.now limits cells before s)) in
+    subst (λ (l : Limits). started_flaw l (rows_of cells.steps) w.completed c.text-text.result ≡ Some c.in-Err.first) s.limited
+    (c.in-Err.ensures.flaw limits cells s.written (names_stand c.args.self.now limits cells before s)) in
     is ∙ ap (λ (it : Option Flaw). or_flaw it (Some w.flaw)) first

@@ -61,12 +61,15 @@ returns-in-Ok-write-clause-taken g c before s =
       lines = kept.lines ∙ ap (λ (n : ℕ). n + 1) (same.lines ∙ s.lines) ∙ omega arith;
       flawless = subst (λ (l : Limits). AreFlawless l (c.args.line ∷ before)) (sym keeps) (c.in-Ok.ensures.good limits cells before s, s.flawless);
       readable = (c.requires.readable, s.readable);
-      checked = subst (λ (l : Limits). checking.Stands l c.write.new.self.checker (c.args.line ∷ before)) (sym keeps) (subst (λ (it : Checking). checking.Stands limits it (c.args.line ∷ before)) (sym kept.checker) (c.in-Ok.ensures.checked limits cells before s));
+      checked = subst (λ (l : Limits). checking.Stands l c.write.new.self.checker (c.args.line ∷ before)) (sym keeps)
+          (subst (λ (it : Checking). checking.Stands limits it (c.args.line ∷ before)) (sym kept.checker) (c.in-Ok.ensures.checked limits cells before s));
       written = c.in-Ok-write.ensures.written;
       names = subst (λ (it : NameCount). IsCount it (names_of false (events_to (c.args.line ∷ before)))) (sym kept.names) (c.in-Ok.ensures.names limits cells before s);
-      steps = is ∙ ap (λ (all : List Step). all ++ steps_of_events c.in-Ok.judged.events) s.steps ∙ ap (λ (it : List Event). steps_of_events (events_to before) ++ steps_of_events it) events ∙ sym (steps_join (events_to before) (line_events before c.args.line));
+      steps = is ∙ ap (λ (all : List Step). all ++ steps_of_events c.in-Ok.judged.events) s.steps
+          ∙ ap (λ (it : List Event). steps_of_events (events_to before) ++ steps_of_events it) events ∙ sym (steps_join (events_to before) (line_events before c.args.line));
       recalled = subst (λ (it : Index). Recalls it (uris_to (c.args.line ∷ before)) (names_in c.write.new.self.writer)) (sym kept.index)
           (recalls_still c.judge.new.self.index (uris_to before) (uris_to (c.args.line ∷ before)) (names_in c.args.self.now.writer) (names_in c.write.new.self.writer) (line_keeps before c.args.line)
-          (names_keep c.args.self.now.writer c.write.new.self.writer limits new cells (g.C.GrowCells.cells c.write.new.c) (steps_of_events c.in-Ok.judged.events) s.written c.in-Ok-write.ensures.written is)
+          (names_keep c.args.self.now.writer c.write.new.self.writer limits new cells (g.C.GrowCells.cells c.write.new.c)
+          (steps_of_events c.in-Ok.judged.events) s.written c.in-Ok-write.ensures.written is)
           (c.in-Ok.ensures.recalled limits cells before s));
     }

@@ -88,7 +88,8 @@ returns-in-Ok-Some-clause-answer g c = λ told lines h.
     let new = c.next.new.self in
     let line = c.in-Ok-Some.line in
     let given = rw c.in-Ok-Some.field-0-is at c.in-Ok-Some.ensures.given in
-    let still = unended old.reader.ended c.next.result line (λ ended. (c.next.ensures.over h.filled.given.going ended).0) (c.in-Ok-Some.is ∙ ap (λ (it : Option Line). Ok it) c.in-Ok-Some.field-0-is) in
+    let still = unended old.reader.ended c.next.result line (λ ended. (c.next.ensures.over h.filled.given.going ended).0)
+    (c.in-Ok-Some.is ∙ ap (λ (it : Option Line). Ok it) c.in-Ok-Some.field-0-is) in
     line_fed law _ told _ lines line _ _ c.build_line.result h.filled.built.flawless h.filled.built.steps
     (line_comes old.reader new told _ _ line lines h.read (given still)) (c.build_line.ensures.answer lines h.filled.built)
 
@@ -131,15 +132,18 @@ returns-in-Err-clause-grows g c = (_, sym c.stop.ensures.steps)
 
 pub returns-in-Ok-Some-clause-asked : goal.returns-in-Ok-Some-clause-asked
 returns-in-Ok-Some-clause-asked g c = λ told lines h.
-    reads_one c.args.self.now.reader.ended c.args.self.now.reader told _ _ lines refl h.read h.asked (λ ended. ap g.S.Source.left (c.next.ensures.over h.filled.given.going ended).2) c.next.ensures.reads
+    reads_one c.args.self.now.reader.ended c.args.self.now.reader told _ _ lines refl h.read h.asked
+    (λ ended. ap g.S.Source.left (c.next.ensures.over h.filled.given.going ended).2) c.next.ensures.reads
 
 pub returns-in-Ok-None-clause-asked : goal.returns-in-Ok-None-clause-asked
 returns-in-Ok-None-clause-asked g c = λ told lines h.
-    reads_one c.args.self.now.reader.ended c.args.self.now.reader told _ _ lines refl h.read h.asked (λ ended. ap g.S.Source.left (c.next.ensures.over h.filled.given.going ended).2) c.next.ensures.reads
+    reads_one c.args.self.now.reader.ended c.args.self.now.reader told _ _ lines refl h.read h.asked
+    (λ ended. ap g.S.Source.left (c.next.ensures.over h.filled.given.going ended).2) c.next.ensures.reads
 
 pub returns-in-Err-clause-asked : goal.returns-in-Err-clause-asked
 returns-in-Err-clause-asked g c = λ told lines h.
-    reads_one c.args.self.now.reader.ended c.args.self.now.reader told _ _ lines refl h.read h.asked (λ ended. ap g.S.Source.left (c.next.ensures.over h.filled.given.going ended).2) c.next.ensures.reads
+    reads_one c.args.self.now.reader.ended c.args.self.now.reader told _ _ lines refl h.read h.asked
+    (λ ended. ap g.S.Source.left (c.next.ensures.over h.filled.given.going ended).2) c.next.ensures.reads
 
 pub returns-in-Ok-Some-clause-over : goal.returns-in-Ok-Some-clause-over
 returns-in-Ok-Some-clause-over g c = λ ended. (c.next.ensures.over (c.requires.fills c.requires.going).1.given.going ended).2

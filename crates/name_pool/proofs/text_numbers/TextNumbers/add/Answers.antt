@@ -21,7 +21,8 @@ invariant_of-self-2 c =
     let before = c.self.inside.numbers in
     let after = c.insert.new.self in
     let key : Vec ℕ = c.in_ok-key.key in
-    let update : tree.Updates (λ (x y : Vec ℕ). slice_cmp nat_cmp x.items y.items) before after key (Some (length old)) = subst (λ n. tree.Updates (λ (x y : Vec ℕ). slice_cmp nat_cmp x.items y.items) before after key (Some n)) (number_is c) c.in_ok-insert.ensures.updates in
+    let update : tree.Updates (λ (x y : Vec ℕ). slice_cmp nat_cmp x.items y.items) before after key (Some (length old)) =
+    subst (λ n. tree.Updates (λ (x y : Vec ℕ). slice_cmp nat_cmp x.items y.items) before after key (Some n)) (number_is c) c.in_ok-insert.ensures.updates in
     let puts = subst (λ y. Puts (text_number before) (text_number after) y (length old)) c.in_ok-key.ensures.items (puts_text before after key (length old) update) in
     let new = subst (λ xs. IsNew xs text) (sym c.self.view_is) c.requires in
     subst (λ xs. Numbers (text_number after) xs) (sym (pushed c)) (numbers_push (text_number before) (text_number after) old text c.self.invariant new puts)

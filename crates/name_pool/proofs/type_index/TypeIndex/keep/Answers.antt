@@ -32,14 +32,16 @@ returns-in_err-insert-clause-only c k u text n knows =
     (more_known c.self.inside.types.entries c.self.inside.locals c.number.new.self c.in_ok-local.ensures.keeps c.self.invariant k u text n old))
 
 -- what the map answers now
-puts : (c : In_ok-insert) → Puts (key_number c.self.inside.types) (key_number c.insert.new.self) (record { kind = kind_number c.args.kind; uri = c.args.uri; local = c.in_ok-local.local }) c.args.number
+puts : (c : In_ok-insert) → Puts (key_number c.self.inside.types) (key_number c.insert.new.self)
+    (record { kind = kind_number c.args.kind; uri = c.args.uri; local = c.in_ok-local.local }) c.args.number
 puts c =
     subst (λ (k : ℕ). Puts (key_number c.self.inside.types) (key_number c.insert.new.self) (record { kind = k; uri = c.args.uri; local = c.in_ok-local.local }) c.args.number) c.number-2.ensures
     (puts_key c.self.inside.types c.insert.new.self (record { kind = c.number-2.result; uri = c.args.uri; local = c.in_ok-local.local }) c.args.number c.in_ok-insert.ensures.updates)
 
 pub invariant_of-self-2 : goal.invariant_of-self-2
 invariant_of-self-2 c =
-    there_put c.self.inside.types.entries c.insert.new.self.entries c.number.new.self _ c.args.number (puts c) (slice_get_within c.number.new.self c.in_ok-local.local c.args.local.now c.in_ok-local.ensures.number)
+    there_put c.self.inside.types.entries c.insert.new.self.entries c.number.new.self _ c.args.number (puts c)
+    (slice_get_within c.number.new.self c.in_ok-local.local c.args.local.now c.in_ok-local.ensures.number)
     (there_kept c.self.inside.types.entries c.self.inside.locals c.number.new.self c.in_ok-local.ensures.keeps c.self.invariant)
 
 pub returns-clause-only : goal.returns-clause-only
@@ -53,4 +55,5 @@ returns-clause-only c k u text n knows =
 pub returns-clause-others : goal.returns-clause-others
 returns-clause-others c k u text n knows =
     put_others c.self.inside.types.entries c.insert.new.self.entries c.number.new.self c.args.kind c.args.uri c.in_ok-local.local c.args.local.now c.args.number c.in_ok-local.ensures.number (puts c) k u text n
-    (still_known c.self.inside.types.entries c.self.inside.locals c.number.new.self c.in_ok-local.ensures.keeps k u text n (subst (λ (index : Index). Knows index k u text n) (sym c.self.view_is) knows))
+    (still_known c.self.inside.types.entries c.self.inside.locals c.number.new.self c.in_ok-local.ensures.keeps k u text n
+    (subst (λ (index : Index). Knows index k u text n) (sym c.self.view_is) knows))

@@ -46,7 +46,8 @@ loop-at-preserved g c =
     record {
       filled = item_filled c.args.self.now c.loop-at.self limits before now c.args.attributes.now c.loop-at.at c.args.n c.index-attributes-at.result c.loop-at-test.true c.index-attributes-at.is
           c.row.new.self later c.loop-at.invariant.filled
-          (subst (λ (l : Limits). RowsFilled c.loop-at.self c.row.new.self l now later (c.index-attributes-at.result ∷ []) (attribute_links c.args.n)) c.loop-at.invariant.limits c.in_ok-row.ensures.ok);
+          (subst (λ (l : Limits). RowsFilled c.loop-at.self c.row.new.self l now later (c.index-attributes-at.result ∷ [])
+          (attribute_links c.args.n)) c.loop-at.invariant.limits c.in_ok-row.ensures.ok);
       steps = c.row.ensures.steps ∙ c.loop-at.invariant.steps;
       limits = c.row.ensures.limits ∙ c.loop-at.invariant.limits;
       mark = c.row.ensures.mark ∙ c.loop-at.invariant.mark;
@@ -54,5 +55,6 @@ loop-at-preserved g c =
 
 pub returns-clause-ok : goal.returns-clause-ok
 returns-clause-ok g c =
-    subst (λ (ys : List Row). RowsFilled c.args.self.now c.loop-at.self (g.C.GrowCells.limits c.args.c.now) (g.C.GrowCells.cells c.args.c.now).columns (g.C.GrowCells.cells c.loop-at.c).columns ys (attribute_links c.args.n))
+    subst (λ (ys : List Row). RowsFilled c.args.self.now c.loop-at.self (g.C.GrowCells.limits c.args.c.now) (g.C.GrowCells.cells c.args.c.now).columns
+    (g.C.GrowCells.cells c.loop-at.c).columns ys (attribute_links c.args.n))
     (take_all _ _ c.loop-at-test.false) c.loop-at.invariant.filled

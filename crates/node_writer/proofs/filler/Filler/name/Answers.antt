@@ -46,4 +46,5 @@ pub returns-clause-ok : goal.returns-clause-ok
 returns-clause-ok g c =
     let name : Name = record { kind = c.args.kind; uri = c.args.uri.now; local = c.args.local.now } in
     let new = is_new_name _ _ _ c.requires.stands name c.intern.new.self c.in-Ok.id c.in-Ok.ensures.ok c.if-id-self.false in
-    new_name_filled _ _ _ c.requires.stands name c.intern.new.self c.new_name.new.self (g.C.GrowCells.cells c.args.c.now) (g.C.GrowCells.cells c.new_name.new.c) refl (new.0) (new.1) c.new_name.ensures.filler c.new_name.ensures.cells
+    new_name_filled _ _ _ c.requires.stands name c.intern.new.self c.new_name.new.self (g.C.GrowCells.cells c.args.c.now) (g.C.GrowCells.cells c.new_name.new.c) refl (new.0)
+    (new.1) c.new_name.ensures.filler c.new_name.ensures.cells

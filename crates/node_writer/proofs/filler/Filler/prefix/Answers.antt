@@ -31,4 +31,5 @@ new_prefix-requires-clause-words g c = words_few _ c.requires.stands.small c.req
 pub returns-clause-ok : goal.returns-clause-ok
 returns-clause-ok g c =
     let new = is_new_prefix _ _ _ c.requires.stands c.args.prefix.now c.prefix.new.self c.in-Ok.id c.in-Ok.ensures.ok c.if-id-self.false in
-    (new_prefix_filled _ _ _ c.requires.stands c.args.prefix.now c.prefix.new.self c.new_prefix.new.self (g.C.GrowCells.cells c.args.c.now) (g.C.GrowCells.cells c.new_prefix.new.c) refl (new.0) (new.1) c.new_prefix.ensures.filler c.new_prefix.ensures.cells).0
+    (new_prefix_filled _ _ _ c.requires.stands c.args.prefix.now c.prefix.new.self c.new_prefix.new.self (g.C.GrowCells.cells c.args.c.now)
+    (g.C.GrowCells.cells c.new_prefix.new.c) refl (new.0) (new.1) c.new_prefix.ensures.filler c.new_prefix.ensures.cells).0

@@ -47,4 +47,5 @@ loop-at-preserved c limits cells s =
 
 pub returns : goal.returns
 returns c limits cells s =
-    subst (λ (all : List Row). AddsNames (rows_of cells.steps) (c.args.row.now ∷ all) c.loop-at.new) (take_all c.loop-at.at c.args.attributes.now c.loop-at-test.false) (c.loop-at.invariant limits cells s)
+    subst (λ (all : List Row). AddsNames (rows_of cells.steps) (c.args.row.now ∷ all) c.loop-at.new) (take_all c.loop-at.at c.args.attributes.now c.loop-at-test.false)
+    (c.loop-at.invariant limits cells s)

@@ -66,8 +66,10 @@ join-requires-2 g c =
     let filled = g.C.GrowCells.cells c.attributes.new.c in
     let links : OpenRow → Links = λ o. record { parent = o.row; prev = o.last; attributes = length c.args.attributes.now } in
     let r2 : RowsFilled c.row.new.self c.attributes.new.self limits columns filled.columns c.args.attributes.now (attribute_links w.filler.rows) =
-    subst (λ (l : Limits). RowsFilled c.row.new.self c.attributes.new.self l columns filled.columns c.args.attributes.now (attribute_links w.filler.rows)) c.row.ensures.limits c.in_ok-attributes.ensures.ok in
-    join_fits w limits cells c.args.row.now c.args.attributes.now c.requires.stands c.requires.going c.requires.may c.requires.room c.row.new.self columns (links c.innermost-around.result) c.in_ok-row.ensures.ok
+    subst (λ (l : Limits). RowsFilled c.row.new.self c.attributes.new.self l columns filled.columns c.args.attributes.now
+    (attribute_links w.filler.rows)) c.row.ensures.limits c.in_ok-attributes.ensures.ok in
+    join_fits w limits cells c.args.row.now c.args.attributes.now c.requires.stands c.requires.going c.requires.may c.requires.room c.row.new.self columns
+    (links c.innermost-around.result) c.in_ok-row.ensures.ok
     (ap links c.innermost-around.ensures) c.attributes.new.self filled.columns r2 filled c.join.result refl (c.attributes.ensures.steps ∙ c.row.ensures.steps)
     (c.join.ensures ∙ ap (λ (o : OpenRow). how_of o.row o.last) c.innermost-around.ensures)
 
@@ -80,10 +82,13 @@ returns-clause-stands g c =
     let filled = g.C.GrowCells.cells c.attributes.new.c in
     let links : OpenRow → Links = λ o. record { parent = o.row; prev = o.last; attributes = length c.args.attributes.now } in
     let r2 : RowsFilled c.row.new.self c.attributes.new.self limits columns filled.columns c.args.attributes.now (attribute_links w.filler.rows) =
-    subst (λ (l : Limits). RowsFilled c.row.new.self c.attributes.new.self l columns filled.columns c.args.attributes.now (attribute_links w.filler.rows)) c.row.ensures.limits c.in_ok-attributes.ensures.ok in
-    let node = node_here w limits cells c.args.row.now c.args.attributes.now c.requires.stands c.requires.going c.requires.may c.requires.room c.row.new.self columns (links c.innermost-around.result) c.in_ok-row.ensures.ok
+    subst (λ (l : Limits). RowsFilled c.row.new.self c.attributes.new.self l columns filled.columns c.args.attributes.now
+    (attribute_links w.filler.rows)) c.row.ensures.limits c.in_ok-attributes.ensures.ok in
+    let node = node_here w limits cells c.args.row.now c.args.attributes.now c.requires.stands c.requires.going c.requires.may c.requires.room c.row.new.self columns
+    (links c.innermost-around.result) c.in_ok-row.ensures.ok
     (ap links c.innermost-around.ensures) c.attributes.new.self filled.columns r2 in
-    let still = joined_still w limits cells c.args.row.now c.args.attributes.now c.requires.stands c.requires.going c.requires.may c.requires.room c.row.new.self columns (links c.innermost-around.result) c.in_ok-row.ensures.ok
+    let still = joined_still w limits cells c.args.row.now c.args.attributes.now c.requires.stands c.requires.going c.requires.may c.requires.room c.row.new.self columns
+    (links c.innermost-around.result) c.in_ok-row.ensures.ok
     (ap links c.innermost-around.ensures) c.attributes.new.self filled.columns r2 in
     let made : Cells = record { columns = filled.columns; steps = cells.steps ++ Node c.args.row.now c.args.attributes.now ∷ [] } in
     let steps = c.attributes.ensures.steps ∙ c.row.ensures.steps in
@@ -103,7 +108,9 @@ returns-clause-steps g c =
     let filled = g.C.GrowCells.cells c.attributes.new.c in
     let links : OpenRow → Links = λ o. record { parent = o.row; prev = o.last; attributes = length c.args.attributes.now } in
     let r2 : RowsFilled c.row.new.self c.attributes.new.self limits columns filled.columns c.args.attributes.now (attribute_links w.filler.rows) =
-    subst (λ (l : Limits). RowsFilled c.row.new.self c.attributes.new.self l columns filled.columns c.args.attributes.now (attribute_links w.filler.rows)) c.row.ensures.limits c.in_ok-attributes.ensures.ok in
-    let node = node_here w limits cells c.args.row.now c.args.attributes.now c.requires.stands c.requires.going c.requires.may c.requires.room c.row.new.self columns (links c.innermost-around.result) c.in_ok-row.ensures.ok
+    subst (λ (l : Limits). RowsFilled c.row.new.self c.attributes.new.self l columns filled.columns c.args.attributes.now
+    (attribute_links w.filler.rows)) c.row.ensures.limits c.in_ok-attributes.ensures.ok in
+    let node = node_here w limits cells c.args.row.now c.args.attributes.now c.requires.stands c.requires.going c.requires.may c.requires.room c.row.new.self columns
+    (links c.innermost-around.result) c.in_ok-row.ensures.ok
     (ap links c.innermost-around.ensures) c.attributes.new.self filled.columns r2 in
     ap (λ (x : Cells). x.steps) c.join-2.ensures.cells ∙ ap₂ (λ xs (x : Step). xs ++ x ∷ []) (c.attributes.ensures.steps ∙ c.row.ensures.steps) node

@@ -7,7 +7,8 @@ use Rattle.node_writer.proofs.Shutting.{shut_fits, shut_still}
 use Rattle.node_writer.proofs.writer.NodeWriter.shut.Goals as goal
 
 pub shut-requires : goal.shut-requires
-shut-requires g c = shut_fits c.args.self.now (g.C.GrowCells.limits c.args.c.now) (g.C.GrowCells.cells c.args.c.now) c.requires.stands c.requires.going c.requires.may c.pop.new.self c.in-Some.open c.in-Some.ensures
+shut-requires g c = shut_fits c.args.self.now (g.C.GrowCells.limits c.args.c.now)
+    (g.C.GrowCells.cells c.args.c.now) c.requires.stands c.requires.going c.requires.may c.pop.new.self c.in-Some.open c.in-Some.ensures
 
 pub returns-clause-stands : goal.returns-clause-stands
 returns-clause-stands g c =

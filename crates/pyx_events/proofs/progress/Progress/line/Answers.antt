@@ -51,7 +51,8 @@ returns-clause-answer c = λ limits before taken.
       pending = rw (← taken.pending, ← c.completes.ensures) c.take_if-start.ensures.left;
       text = taken.text;
     } in
-    let node = node_completed limits before (completed_start before c.args.line) c.take_if-start.result nesting.scopes.uris (all_bindings nesting.scopes.scopes) (length nesting.open_names) c.in-Ok.node at c.in-Ok.ensures.node in
+    let node = node_completed limits before (completed_start before c.args.line) c.take_if-start.result nesting.scopes.uris (all_bindings nesting.scopes.scopes)
+    (length nesting.open_names) c.in-Ok.node at c.in-Ok.ensures.node in
     given_all limits before (completed_start before c.args.line) c.take_if-start.result nesting.scopes.uris (all_bindings nesting.scopes.scopes) (length nesting.open_names)
     (own_flaw limits free_names before c.args.line) c.judge-own.result (line_events before c.args.line) c.in_ok-events.events _
     at c.in-Ok.ensures.good (c.judge-own.ensures limits before taken) c.in-None.is

@@ -13,7 +13,8 @@ look_again-requires c =
     let binding : Binding = record { prefix = c.args.prefix.now; uri = c.args.uri.now } in
     let all = ap all_bindings c.in_ok-bind.ensures.ok ∙ all_declared binding c.self.inside.scopes.scopes in
     let told = told_declared c.self.inside.numbers binding (all_bindings c.self.inside.scopes.scopes) c.number_of-number.result c.number_of-number.ensures c.self.invariant.1 in
-    subst (λ (number : Option ℕ). Tells c.self.inside.numbers (doubtful number) (all_bindings c.bind.new.self.scopes)) c.in-Some.is (subst (λ (bound : List Binding). Tells c.self.inside.numbers (doubtful c.number_of-number.result) bound) (sym all) told)
+    subst (λ (number : Option ℕ). Tells c.self.inside.numbers (doubtful number) (all_bindings c.bind.new.self.scopes)) c.in-Some.is
+    (subst (λ (bound : List Binding). Tells c.self.inside.numbers (doubtful c.number_of-number.result) bound) (sym all) told)
 
 pub invariant_of-self-in-Some : goal.invariant_of-self-in-Some
 invariant_of-self-in-Some c =
@@ -34,7 +35,8 @@ invariant_of-self-in-None c =
     let all = ap all_bindings bound ∙ all_declared binding c.self.inside.scopes.scopes in
     let told = told_declared c.self.inside.numbers binding (all_bindings c.self.inside.scopes.scopes) c.number_of-number.result c.number_of-number.ensures c.self.invariant.1 in (
       rw (noted, bound) (declared_nested binding c.number_of-number.result opened c.self.inside.scopes.scopes c.number_of-number.ensures some c.self.invariant.0),
-      subst (λ (number : Option ℕ). Tells c.self.inside.numbers (doubtful number) (all_bindings c.bind.new.self.scopes)) c.in-None.is (subst (λ (bound : List Binding). Tells c.self.inside.numbers (doubtful c.number_of-number.result) bound) (sym all) told),
+      subst (λ (number : Option ℕ). Tells c.self.inside.numbers (doubtful number) (all_bindings c.bind.new.self.scopes)) c.in-None.is
+          (subst (λ (bound : List Binding). Tells c.self.inside.numbers (doubtful c.number_of-number.result) bound) (sym all) told),
     )
 
 pub returns-in-None : goal.returns-in-None

@@ -8,7 +8,8 @@ use Rattle.result_events.proofs.attributes.Attributes.add.Goals as goal
 pub invariant_of-self-2 : goal.invariant_of-self-2
 invariant_of-self-2 c = λ above name.
     let old = c.self.inside.list.items in
-    let items : c.push_reserved.new.self.items ≡ old ++ c.args.attribute ∷ [] = c.push_reserved.ensures.items ∙ ap (λ (xs : List Attribute). xs ++ c.args.attribute ∷ []) c.in_ok-reserve.ensures.items in
+    let items : c.push_reserved.new.self.items ≡ old ++ c.args.attribute ∷ [] =
+    c.push_reserved.ensures.items ∙ ap (λ (xs : List Attribute). xs ++ c.args.attribute ∷ []) c.in_ok-reserve.ensures.items in
     let given : c.as_slice.result.now ≡ old = c.as_slice.ensures.value ∙ c.in_ok-reserve.ensures.items in
     let many : 8 ≤ length c.as_slice.result.now = rw given (let above = rw items at above in grind (arith, common_steps)) in
     let noted = rw given at ((c.in_ok-note_next.ensures {u = tt}).ok many name) in

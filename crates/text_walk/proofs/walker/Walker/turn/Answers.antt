@@ -3,7 +3,9 @@ use Rattle.std.proofs.lemmas.Bool.{le-leb, lt-leb}
 use Rattle.doc_laws.proofs.Moving.{moves_on}
 use Rattle.doc_laws.proofs.Growth.{joined_grows}
 use Rattle.text_walk.proofs.Reach.{ahead_later, way_later, faulted, not_deep}
-use Rattle.text_walk.proofs.Asked.{moved_on, moved_grows, caught_up, behind_joined, behind_here, asked_node, asked_childless, asked_waiting, asked_last, asked_below, asked_end, taken, taken_further, few_events, as_count, at_most_one, ahead_at, kept, on_err}
+use Rattle.text_walk.proofs.Asked.{moved_on, moved_grows, caught_up, behind_joined, behind_here, asked_node, asked_childless, asked_waiting}
+use Rattle.text_walk.proofs.Asked.{asked_last, asked_below, asked_end, taken, taken_further, few_events, as_count, at_most_one, ahead_at, kept}
+use Rattle.text_walk.proofs.Asked.{on_err}
 use Rattle.text_walk.proofs.walker.Walker.turn.Goals as goal
 
 pub ask-requires : goal.ask-requires
@@ -20,7 +22,8 @@ returns-in-NotYet-clause-turn g c =
     let inv = c.loop-view.invariant in
     let moves = moved_on _ _ _ inv.moved c.ask.ensures.moves in
     let way = caught_up _ _ _ c.loop-view.self-inside.down _ _ _ c.ask.ensures.moves inv.behind in
-    asked_waiting _ _ _ c.requires.rules moves c.ask.ensures.moves _ _ _ _ _ c.decider.ensures.moves c.loop-view.self-inside.down c.decider.result (moved_grows _ _ inv.moved) way c.in-NotYet.ensures.value c.decider.ensures.value
+    asked_waiting _ _ _ c.requires.rules moves c.ask.ensures.moves _ _ _ _ _ c.decider.ensures.moves c.loop-view.self-inside.down c.decider.result
+    (moved_grows _ _ inv.moved) way c.in-NotYet.ensures.value c.decider.ensures.value
 
 pub loop-view-smaller-then-self : goal.loop-view-smaller-then-self
 loop-view-smaller-then-self g c =
@@ -73,7 +76,8 @@ loop-view-preserved-in-Some g c =
     let way = caught_up _ _ _ c.loop-view.self-inside.down _ _ _ c.ask.ensures.moves inv.behind in
     record {
       moved = inr (moves_on _ _ _ moves c.parent.ensures.moves);
-      behind = behind_here _ _ _ _ _ _ (asked_last _ _ _ c.requires.rules moves c.ask.ensures.moves _ _ _ _ _ c.parent.ensures.moves c.loop-view.self-inside.down c.if-self.false way c.in-Nothing.ensures.value c.in-Some.up (sym c.in-Some.ensures.value)).0;
+      behind = behind_here _ _ _ _ _ _
+          (asked_last _ _ _ c.requires.rules moves c.ask.ensures.moves _ _ _ _ _ c.parent.ensures.moves c.loop-view.self-inside.down c.if-self.false way c.in-Nothing.ensures.value c.in-Some.up (sym c.in-Some.ensures.value)).0;
     }
 
 pub overflow_add-depth : goal.overflow_add-depth
@@ -94,7 +98,8 @@ returns-then-depth-ge-MOST_NESTED-clause-turn g c =
     let way = caught_up _ _ _ c.loop-view.self-inside.down _ _ _ c.ask.ensures.moves inv.behind in
     let ahead = (asked_node _ _ _ c.requires.rules moves c.ask.ensures.moves _ _ _ _ c.loop-view.self-inside.down c.in-Node.found way c.in-Node.ensures.value).0 in
     let now = way_later _ _ _ c.loop-view.self-inside.down _ _ _ c.ask.ensures.moves.grows c.ask.ensures.moves.seen.lawful way in
-    let depth : c.loop-view.self-inside.depth + c.from.result ≡ c.loop-view.self-inside.depth + cond c.loop-view.self-inside.down 1 0 = ap (λ k. c.loop-view.self-inside.depth + k) (c.from.ensures ∙ as_count c.loop-view.self-inside.down) in
+    let depth : c.loop-view.self-inside.depth + c.from.result ≡ c.loop-view.self-inside.depth + cond c.loop-view.self-inside.down 1 0 =
+    ap (λ k. c.loop-view.self-inside.depth + k) (c.from.ensures ∙ as_count c.loop-view.self-inside.down) in
     faulted _ _ c.in-Node.found _ _ now ahead (ap (nat_le 500) (sym depth) ∙ le-leb 500 (c.loop-view.self-inside.depth + c.from.result) c.if-depth-ge-MOST_NESTED.true)
 
 pub append_text-requires : goal.append_text-requires
@@ -132,7 +137,8 @@ loop-view-smaller g c =
     let way = caught_up _ _ _ c.loop-view.self-inside.down _ _ _ c.ask.ensures.moves inv.behind in
     let next = asked_node _ _ _ c.requires.rules moves c.ask.ensures.moves _ _ _ _ c.loop-view.self-inside.down c.in-Node.found way c.in-Node.ensures.value in
     let lawful = c.append_text.ensures.moves.seen.lawful in
-    taken_further _ c.in-Node.found _ _ _ _ c.loop-view.self-inside.row c.loop-view.self-inside.down lawful (ahead_later _ _ c.in-Node.found _ _ _ c.append_text.ensures.moves.grows lawful next.0) next.1
+    taken_further _ c.in-Node.found _ _ _ _ c.loop-view.self-inside.row c.loop-view.self-inside.down lawful
+    (ahead_later _ _ c.in-Node.found _ _ _ c.append_text.ensures.moves.grows lawful next.0) next.1
 
 pub loop-view-preserved : goal.loop-view-preserved
 loop-view-preserved g c =
@@ -141,9 +147,13 @@ loop-view-preserved g c =
     let way = caught_up _ _ _ c.loop-view.self-inside.down _ _ _ c.ask.ensures.moves inv.behind in
     let next = asked_node _ _ _ c.requires.rules moves c.ask.ensures.moves _ _ _ _ c.loop-view.self-inside.down c.in-Node.found way c.in-Node.ensures.value in
     let lawful = c.append_text.ensures.moves.seen.lawful in
-    let depth : c.loop-view.self-inside.depth + c.from.result ≡ c.loop-view.self-inside.depth + cond c.loop-view.self-inside.down 1 0 = ap (λ k. c.loop-view.self-inside.depth + k) (c.from.ensures ∙ as_count c.loop-view.self-inside.down) in
+    let depth : c.loop-view.self-inside.depth + c.from.result ≡ c.loop-view.self-inside.depth + cond c.loop-view.self-inside.down 1 0 =
+    ap (λ k. c.loop-view.self-inside.depth + k) (c.from.ensures ∙ as_count c.loop-view.self-inside.down) in
     let ahead = ahead_at _ c.in-Node.found _ _ _ _ depth (ahead_later _ _ c.in-Node.found _ _ _ c.append_text.ensures.moves.grows lawful next.0) in
     record {
       moved = inr (moves_on _ _ _ moves c.append_text.ensures.moves);
-      behind = behind_here _ _ _ _ _ _ (taken _ c.in-Node.found _ _ _ _ c.in_ok-event-in-Node.event c.from-in-Node.result ahead (lt-leb 500 (c.loop-view.self-inside.depth + c.from.result) c.if-depth-ge-MOST_NESTED.false) c.in_ok-event-in-Node.ensures.text c.in_ok-event-in-Node.ensures.event (c.from-in-Node.ensures ∙ as_count c.in_ok-event-in-Node.event));
+      behind = behind_here _ _ _ _ _ _
+          (taken _ c.in-Node.found _ _ _ _ c.in_ok-event-in-Node.event c.from-in-Node.result ahead
+          (lt-leb 500 (c.loop-view.self-inside.depth + c.from.result) c.if-depth-ge-MOST_NESTED.false) c.in_ok-event-in-Node.ensures.text c.in_ok-event-in-Node.ensures.event
+          (c.from-in-Node.ensures ∙ as_count c.in_ok-event-in-Node.event));
     }

@@ -25,7 +25,8 @@ invariant_of-self c =
     let fresh : IsFresh (columns_of p) c.args.name.now = subst (λ (t : Table). IsFresh t.cells.columns c.args.name.now) (sym c.self.view_is) c.requires.fresh in
     record {
       spelled = spelled_fuller _ _ f p.log.items h.spelled
-          (λ k l m. subst (λ q. NameFits (record (columns_of p) { names = c.push.new.self.items }) q) (sym (ap (λ xs. get_or xs k no_name) e ∙ get_or_push p.names.items c.args.name.now no_name k (omega (arith, len)))) (record { uri = fits.uri; local = fits.local }))
+          (λ k l m. subst (λ q. NameFits (record (columns_of p) { names = c.push.new.self.items }) q)
+          (sym (ap (λ xs. get_or xs k no_name) e ∙ get_or_push p.names.items c.args.name.now no_name k (omega (arith, len)))) (record { uri = fits.uri; local = fits.local }))
           (λ k l m. absurd (omega arith)) (λ k l m. absurd (omega arith)) (distinct_name _ _ f p.log.items c.args.name.now h.spelled fits fresh e);
       words = subst (λ xs. WordsHold xs p.first.items p.next.items p.extent.items p.verdict) (sym s) h.words;
       placed = subst (λ xs. Placed (record (columns_of p) { names = c.push.new.self.items }) xs p.joined) (sym s) (placed_fuller _ _ f p.log.items _ p.joined h.spelled h.placed);

@@ -21,11 +21,13 @@ invariant_of-self c =
     let names = ap (λ (t : Table). length t.cells.columns.names) c.self.view_is in
     let prefixes = ap (λ (t : Table). length t.cells.columns.prefixes) c.self.view_is in
     let len : length c.push.new.self.items ≡ length p.prefixes.items + 1 = ap length e ∙ length-append p.prefixes.items ((record { at = c.args.at; len = c.args.len }) ∷ []) in
-    let fits : PrefixFits (columns_of p) (record { at = c.args.at; len = c.args.len }) = subst (λ (t : Table). PrefixFits t.cells.columns (record { at = c.args.at; len = c.args.len })) (sym c.self.view_is) c.requires.fits in
+    let fits : PrefixFits (columns_of p) (record { at = c.args.at; len = c.args.len }) =
+    subst (λ (t : Table). PrefixFits t.cells.columns (record { at = c.args.at; len = c.args.len })) (sym c.self.view_is) c.requires.fits in
     record {
       spelled = spelled_fuller _ _ f p.log.items h.spelled
           (λ k l m. absurd (omega arith))
-          (λ k l m. subst (λ q. PrefixFits (columns_of p) q) (sym (ap (λ xs. get_or xs k no_prefix) e ∙ get_or_push p.prefixes.items (record { at = c.args.at; len = c.args.len }) no_prefix k (omega (arith, len)))) fits)
+          (λ k l m. subst (λ q. PrefixFits (columns_of p) q)
+          (sym (ap (λ xs. get_or xs k no_prefix) e ∙ get_or_push p.prefixes.items (record { at = c.args.at; len = c.args.len }) no_prefix k (omega (arith, len)))) fits)
           (λ k l m. absurd (omega arith)) (distinct_fuller _ _ f p.log.items h.spelled refl);
       words = subst (λ xs. WordsHold xs p.first.items p.next.items p.extent.items p.verdict) (sym s) h.words;
       placed = subst (λ xs. Placed (record (columns_of p) { prefixes = c.push.new.self.items }) xs p.joined) (sym s) (placed_fuller _ _ f p.log.items _ p.joined h.spelled h.placed);

@@ -27,7 +27,8 @@ invariant_of-self c =
     let ws = words_more _ _ _ _ _ h.words in
     record {
       spelled = spelled_fuller _ _ f p.log.items h.spelled (λ k l m. absurd (omega arith)) (λ k l m. absurd (omega arith))
-          (λ k l m. subst (λ q. RowFits (columns_of p) q) (sym (ap (λ xs. get_or xs k root_place) e ∙ get_or_push p.places.items c.args.row.now root_place k (omega arith))) fits) (distinct_fuller _ _ f p.log.items h.spelled refl);
+          (λ k l m. subst (λ q. RowFits (columns_of p) q) (sym (ap (λ xs. get_or xs k root_place) e ∙ get_or_push p.places.items c.args.row.now root_place k (omega arith))) fits)
+          (distinct_fuller _ _ f p.log.items h.spelled refl);
       words = subst (λ xs. WordsHold xs c.push_unset.new.words.items c.push_unset-2.new.words.items c.push_unset-3.new.words.items p.verdict) (sym s) (rw (a, b, d) ws);
       placed = subst (λ xs. Placed (record (columns_of p) { places = c.push_row.new.places.items }) xs p.joined) (sym s) (placed_fuller _ _ f p.log.items _ p.joined h.spelled h.placed);
       few = subst (λ xs. FewSteps (document_of xs) (length p.log.items)) (sym s) h.few;

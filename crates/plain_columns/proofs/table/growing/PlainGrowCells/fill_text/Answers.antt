@@ -48,7 +48,8 @@ invariant_of-self c =
     let room : length c.args.bytes.now ≤ 7 * text_words p.limits - text_place (length p.texts.items) =
     subst (λ (t : Table). length c.args.bytes.now ≤ 7 * text_words t.limits - text_place (length t.cells.columns.texts)) (sym c.self.view_is) c.requires.room in
     record {
-      spelled = spelled_fuller _ _ f p.log.items h.spelled (λ k l m. absurd (omega arith)) (λ k l m. absurd (omega arith)) (λ k l m. absurd (omega arith)) (distinct_fuller _ _ f p.log.items h.spelled refl);
+      spelled = spelled_fuller _ _ f p.log.items h.spelled (λ k l m. absurd (omega arith)) (λ k l m. absurd (omega arith)) (λ k l m. absurd (omega arith))
+          (distinct_fuller _ _ f p.log.items h.spelled refl);
       words = subst (λ xs. WordsHold xs p.first.items p.next.items p.extent.items p.verdict) (sym s) h.words;
       placed = subst (λ xs. Placed (record (columns_of p) { texts = c.push_bytes.new.texts.items }) xs p.joined) (sym s) (placed_fuller _ _ f p.log.items _ p.joined h.spelled h.placed);
       few = subst (λ xs. FewSteps (document_of xs) (length p.log.items)) (sym s) h.few;

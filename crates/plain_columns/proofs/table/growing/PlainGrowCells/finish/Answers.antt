@@ -26,7 +26,9 @@ invariant_of-self c =
     let x = c.set_end.ensures.items in
     record {
       spelled = h.spelled;
-      words = subst (λ xs. WordsHold xs p.first.items p.next.items c.set_end.new.extent.items (Some v)) (sym s) (rw x (words_end (columns_of p) steps v p.joined _ _ _ _ h.words fits h.placed.joined (omega (arith, (root_at steps h.words.lawful).within, h.placed.joined, h.placed.within, h.has_words.extents))));
+      words = subst (λ xs. WordsHold xs p.first.items p.next.items c.set_end.new.extent.items (Some v)) (sym s)
+          (rw x (words_end (columns_of p) steps v p.joined _ _ _ _ h.words fits h.placed.joined
+          (omega (arith, (root_at steps h.words.lawful).within, h.placed.joined, h.placed.within, h.has_words.extents))));
       placed = placed_same (columns_of p) steps _ p.joined (ap rows_of s ∙ ap (λ (q : Document). q.rows) r) h.placed;
       few = subst (λ xs. FewSteps (document_of xs) (length p.log.items)) (sym s) (subst (λ q. FewSteps q (length p.log.items)) (sym r) few);
       texts = h.texts;

@@ -19,7 +19,8 @@ set_link-requires c =
     let p = c.self.inside in
     let h = c.self.invariant in
     let fits : JoinFits (table_of p).cells c.args.n c.args.how = subst (λ (t : Table). JoinFits t.cells c.args.n c.args.how) (sym c.self.view_is) c.requires in
-    how_within _ _ _ c.args.how (stack_of _ h.words.lawful) fits.innermost fits.link _ _ (omega (arith, h.placed.joined, h.placed.within, h.has_words.firsts, p.first.ok.0)) (omega (arith, h.placed.joined, h.placed.within, h.has_words.nexts, p.next.ok.0))
+    how_within _ _ _ c.args.how (stack_of _ h.words.lawful) fits.innermost fits.link _ _ (omega (arith, h.placed.joined, h.placed.within, h.has_words.firsts, p.first.ok.0))
+    (omega (arith, h.placed.joined, h.placed.within, h.has_words.nexts, p.next.ok.0))
 
 pub invariant_of-self : goal.invariant_of-self
 invariant_of-self c =
@@ -43,7 +44,14 @@ invariant_of-self c =
     let q = c.place_in.ensures in
     omega (arith, ap (λ (q : RowPlace). q.attr_count) q) in
     record {
-      spelled = record { names = h.spelled.names; prefixes = h.spelled.prefixes; rows = h.spelled.rows; distinct = h.spelled.distinct; entries = subst (λ xs. LogFits (columns_of p) xs) (sym e) (LogFits-push (columns_of p) p.log.items (Join n) h.spelled.entries fits.filled) };
+      spelled = record {
+        names = h.spelled.names;
+        prefixes = h.spelled.prefixes;
+        rows = h.spelled.rows;
+        distinct = h.spelled.distinct;
+        entries =
+            subst (λ xs. LogFits (columns_of p) xs) (sym e) (LogFits-push (columns_of p) p.log.items (Join n) h.spelled.entries fits.filled);
+      };
       words = subst (λ xs. WordsHold xs c.set_link.new.first.items c.set_link.new.next.items p.extent.items p.verdict) (sym s)
           (rw (a, b) (words_join (columns_of p) steps n how _ _ _ _ h.words fits (omega (arith, h.has_words.firsts)) (omega (arith, h.has_words.nexts))));
       placed = subst (λ xs. Placed (columns_of p) xs (n + 1 + c.place_in.result.attr_count)) (sym s) (rw (← count) placed);

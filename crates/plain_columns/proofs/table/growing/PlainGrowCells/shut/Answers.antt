@@ -33,8 +33,16 @@ invariant_of-self c =
     let few = few_shut (document_of steps) (length p.log.items) fits.may h.few in
     let len : length c.push_entry.new.log.items ≡ length p.log.items + 1 = ap length e ∙ length-append p.log.items (Shut ∷ []) in
     record {
-      spelled = record { names = h.spelled.names; prefixes = h.spelled.prefixes; rows = h.spelled.rows; distinct = h.spelled.distinct; entries = subst (λ xs. LogFits (columns_of p) xs) (sym e) (LogFits-push (columns_of p) p.log.items Shut h.spelled.entries tt) };
-      words = subst (λ xs. WordsHold xs p.first.items p.next.items (set p.extent.items c.args.n c.args.extent) p.verdict) (sym s) (words_shut (columns_of p) steps c.args.n c.args.extent _ _ _ _ h.words fits (omega (arith, h.placed.joined, h.placed.within, h.has_words.extents)));
+      spelled = record {
+        names = h.spelled.names;
+        prefixes = h.spelled.prefixes;
+        rows = h.spelled.rows;
+        distinct = h.spelled.distinct;
+        entries =
+            subst (λ xs. LogFits (columns_of p) xs) (sym e) (LogFits-push (columns_of p) p.log.items Shut h.spelled.entries tt);
+      };
+      words = subst (λ xs. WordsHold xs p.first.items p.next.items (set p.extent.items c.args.n c.args.extent) p.verdict) (sym s)
+          (words_shut (columns_of p) steps c.args.n c.args.extent _ _ _ _ h.words fits (omega (arith, h.placed.joined, h.placed.within, h.has_words.extents)));
       placed = placed_same (columns_of p) steps _ p.joined (ap rows_of s ∙ ap (λ (q : Document). q.rows) r) h.placed;
       few = subst (λ xs. FewSteps (document_of xs) (length c.push_entry.new.log.items)) (sym s) (subst (λ q. FewSteps q (length c.push_entry.new.log.items)) (sym r) (rw len few));
       texts = h.texts;
