@@ -1,0 +1,4 @@
+pub mod Making
+pub mod Others
+pub mod Completing
+pub mod Joining

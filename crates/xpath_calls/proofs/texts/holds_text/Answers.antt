@@ -1,0 +1,9 @@
+use Rattle.std.proofs.Common.{ap}
+use Rattle.doc_model.specs.Answers.{Known}
+use Rattle.key_sources.proofs.Saying.{gives_same}
+use Rattle.xpath_meaning.specs.Conversions.{truth}
+use Rattle.xpath_funcs.specs.Searches.{contains}
+use Rattle.xpath_calls.proofs.texts.holds_text.Goals as goal
+
+pub returns : goal.returns
+returns c = gives_same (Known (truth c.contains.result)) (Known (truth (contains c.args.a.now c.args.b.now))) c.truth_value.result (ap (λ b. Known (truth b)) c.contains.ensures) c.truth_value.ensures

@@ -1,0 +1,4 @@
+pub mod Taking
+pub mod Taken
+pub mod Given
+pub mod Holding

@@ -1,0 +1,3 @@
+pub mod Operating
+pub mod Held
+pub mod Standing
