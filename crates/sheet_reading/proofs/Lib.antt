@@ -1,0 +1,4 @@
+mod Each
+mod Levels
+mod Loops
+mod Scoping
