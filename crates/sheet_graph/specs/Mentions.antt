@@ -30,17 +30,17 @@ abbrev pub slot_mentions : Option ℕ → Mentions
 slot_mentions None = []
 slot_mentions (Some slot) = OfVariable slot ∷ []
 
--- by what its parts mention
+-- By what its parts mention. In what order things are mentioned doesn't count: of operations and filters the last operand comes first.
 abbrev pub expr_layer : Expr-F Mentions Mentions Mentions → Mentions
-expr_layer (Expr-F.Binary op left right) = left ++ right
+expr_layer (Expr-F.Binary op left right) = right ++ left
 expr_layer (Expr-F.Minus inner) = inner
 expr_layer (Expr-F.Literal text) = []
 expr_layer (Expr-F.Number whole) = []
 expr_layer (Expr-F.Variable name) = slot_mentions name.slot
 expr_layer (Expr-F.Call name args) = joined args
 expr_layer (Expr-F.Path path) = path
-expr_layer (Expr-F.Filter primary predicates None) = primary ++ joined predicates
-expr_layer (Expr-F.Filter primary predicates (Some tail)) = primary ++ joined predicates ++ tail
+expr_layer (Expr-F.Filter primary predicates None) = joined predicates ++ primary
+expr_layer (Expr-F.Filter primary predicates (Some tail)) = joined predicates ++ tail ++ primary
 
 abbrev pub path_layer : Path-F Mentions Mentions Mentions → Mentions
 path_layer path = joined path.parts
