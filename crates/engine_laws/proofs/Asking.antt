@@ -62,10 +62,10 @@ module _ (sheet : Sheet) (globals : List Value) (w v : World) (y : Continues w v
   pub row_stays : (c : Place) → Stays (row_here W c) (row_here V c)
   row_stays c = y.reading.row c.context.node
 
-  part_of_key_stays : (c : Place) (item : Context) (sort : SortDecl) → Stays (key_at W c item sort) (key_at V c item sort)
+  pub part_of_key_stays : (c : Place) (item : Context) (sort : SortDecl) → Stays (key_at W c item sort) (key_at V c item sort)
   part_of_key_stays c item sort = bind_stays _ _ _ _ (text_stays (place item c.locals) sort.select) (λ text. stays (key_part sort.number text))
 
-  rows_stay : (c : Place) (sorts : List SortDecl) (z : Size) (at : ℕ) (ns : List ℕ) → Stays (rows_from W c sorts z at ns) (rows_from V c sorts z at ns)
+  pub rows_stay : (c : Place) (sorts : List SortDecl) (z : Size) (at : ℕ) (ns : List ℕ) → Stays (rows_from W c sorts z at ns) (rows_from V c sorts z at ns)
   rows_stay c sorts z at [] = refl
   rows_stay c sorts z at (n ∷ ns) =
       bind_stays _ _ _ _ (each_stays _ _ sorts (part_of_key_stays c (at_item z at n))) (λ row. bind_stays _ _ _ _ (rows_stay c sorts z (suc at) ns) (λ rows. refl))

@@ -51,7 +51,7 @@ use Rattle.engine_laws.proofs.Choosing.{choice_stays}
 use Rattle.engine_laws.proofs.Asking.{value_stays, text_stays, truth_stays, nodes_stay, template_stays, name_stays, target_stays, row_stays, sorted_stay}
 
 -- a fact of each
-abbrev AllOf : {A : Type 0} → (A → Type 0) → List A → Type 0
+abbrev pub AllOf : {A : Type 0} → (A → Type 0) → List A → Type 0
 AllOf P [] = Unit {0}
 AllOf P (a ∷ as') = P a × AllOf P as'
 
@@ -82,7 +82,7 @@ module _ (sheet : Sheet) (globals : List Value) (w v : World) (x : Continues w v
   order_keeps [] k call dall d c = pure_keeps c.locals
   order_keeps (a ∷ as') k call dall d c = bind_keeps (k.0 call dall d c) (λ locals. order_keeps as' k.1 call dall d (place c.context locals))
 
-  within_keeps : (as' : List Action) → AllOf ActionKeeps as' → (call dall : Templates) → TemplatesKeep call dall → (c : Place) → Keeps (within as' W call c) (within as' V dall c)
+  pub within_keeps : (as' : List Action) → AllOf ActionKeeps as' → (call dall : Templates) → TemplatesKeep call dall → (c : Place) → Keeps (within as' W call c) (within as' V dall c)
   within_keeps as' k call dall d c = then_keeps (order_keeps as' k call dall d c) (pure_keeps tt)
 
   made_keeps : (as' : List Action) → AllOf ActionKeeps as' → (call dall : Templates) → TemplatesKeep call dall → (c : Place) → Keeps (made_apart as' W call c) (made_apart as' V dall c)
@@ -96,11 +96,11 @@ module _ (sheet : Sheet) (globals : List Value) (w v : World) (x : Continues w v
   else_keeps true k l = k
   else_keeps false k l = l
 
-  attributes_keep : (attributes : List LiteralAttr) (c : Place) → Keeps (attributes_in attributes W c) (attributes_in attributes V c)
+  pub attributes_keep : (attributes : List LiteralAttr) (c : Place) → Keeps (attributes_in attributes W c) (attributes_in attributes V c)
   attributes_keep [] c = pure_keeps tt
   attributes_keep (attribute ∷ more) c = bind_keeps (ask_keeps _ _ (template_stays sheet globals w v x c attribute.value)) (λ value. then_keeps (emit_keeps _) (attributes_keep more c))
 
-  copies_keep : (ns : List ℕ) → Keeps (copies_in w ns) (copies_in v ns)
+  pub copies_keep : (ns : List ℕ) → Keeps (copies_in w ns) (copies_in v ns)
   copies_keep [] = pure_keeps tt
   copies_keep (n ∷ ns) = bind_keeps (ask_keeps _ _ (x.copy n)) (λ events. then_keeps (emit_all_keeps events) (copies_keep ns))
 
@@ -127,17 +127,17 @@ module _ (sheet : Sheet) (globals : List Value) (w v : World) (x : Continues w v
   otherwise_keeps None k call dall d c = pure_keeps tt
   otherwise_keeps (Some body) k call dall d c = within_keeps body k call dall d c
 
-  cases_keep : (ks : List Case) → AllOf CaseKeeps ks → (other : Option (List Action)) → SomeKeep other → (call dall : Templates) → TemplatesKeep call dall → (c : Place)
+  pub cases_keep : (ks : List Case) → AllOf CaseKeeps ks → (other : Option (List Action)) → SomeKeep other → (call dall : Templates) → TemplatesKeep call dall → (c : Place)
       → Keeps (chosen_case ks other W call c) (chosen_case ks other V dall c)
   cases_keep [] a other o call dall d c = otherwise_keeps other o call dall d c
   cases_keep (k ∷ ks) a other o call dall d c =
       bind_keeps (ask_keeps _ _ (truth_stays sheet globals w v x c k.test)) (λ holds. else_keeps holds (then_keeps (a.0 call dall d c) (pure_keeps tt)) (cases_keep ks a.1 other o call dall d c))
 
-  handed_keeps : (bs : List Binding) → AllOf BindingKeeps bs → (call dall : Templates) → TemplatesKeep call dall → (c : Place) → Keeps (handed bs W call c) (handed bs V dall c)
+  pub handed_keeps : (bs : List Binding) → AllOf BindingKeeps bs → (call dall : Templates) → TemplatesKeep call dall → (c : Place) → Keeps (handed bs W call c) (handed bs V dall c)
   handed_keeps [] a call dall d c = pure_keeps []
   handed_keeps (b ∷ bs) a call dall d c = bind_keeps (a.0 call dall d c) (λ value. bind_keeps (handed_keeps bs a.1 call dall d c) (λ given. pure_keeps _))
 
-  terminated_keeps : (b : Bool) → Keeps (terminated b) (terminated b)
+  pub terminated_keeps : (b : Bool) → Keeps (terminated b) (terminated b)
   terminated_keeps true = fail_keeps Terminated
   terminated_keeps false = pure_keeps tt
 
@@ -147,7 +147,7 @@ module _ (sheet : Sheet) (globals : List Value) (w v : World) (x : Continues w v
       streamed_keeps (items w.reading (globals ++ c.locals) c.context) (items v.reading (globals ++ c.locals) c.context) (i w.reading v.reading x.reading (globals ++ c.locals) c.context) k
   unsorted_keeps None i c e k = bind_keeps (ask_keeps _ _ (nodes_stay sheet globals w v x c e)) (λ nodes. over_keeps nodes k)
 
-  selected_keeps : (c : Place) (e : Expr) (sorts : List SortDecl) {act bct : AtItem} → ((y : Context) → Keeps (act y) (bct y)) → Keeps (selected W c e sorts act) (selected V c e sorts bct)
+  pub selected_keeps : (c : Place) (e : Expr) (sorts : List SortDecl) {act bct : AtItem} → ((y : Context) → Keeps (act y) (bct y)) → Keeps (selected W c e sorts act) (selected V c e sorts bct)
   selected_keeps c e [] k = unsorted_keeps (meant e).items (expr_keeps e).items c e k
   selected_keeps c e (sort ∷ sorts) k = bind_keeps (ask_keeps _ _ (sorted_stay sheet globals w v x c e (sort ∷ sorts))) (λ nodes. over_keeps nodes k)
 
@@ -277,31 +277,31 @@ module _ (sheet : Sheet) (globals : List Value) (w v : World) (x : Continues w v
   abbrev WhenKeeps : When → Type 0
   WhenKeeps w = CaseKeeps (case_of w)
 
-  does_keeps : (i : Instruction) → ActionKeeps (does i)
+  pub does_keeps : (i : Instruction) → ActionKeeps (does i)
   does_keeps = ind-Instruction InstructionKeeps ValueKeeps VariableKeeps WhenKeeps instruction_layer value_layer variable_layer when_layer
 
-  binding_keeps : (v : Variable) → BindingKeeps (binding_of v)
+  pub binding_keeps : (v : Variable) → BindingKeeps (binding_of v)
   binding_keeps = ind-Variable InstructionKeeps ValueKeeps VariableKeeps WhenKeeps instruction_layer value_layer variable_layer when_layer
 
   pub giving_keeps : (v : VarValue) → GivingKeeps (giving_of v)
   giving_keeps = ind-VarValue InstructionKeeps ValueKeeps VariableKeeps WhenKeeps instruction_layer value_layer variable_layer when_layer
 
-  each_does : (is : List Instruction) → AllOf ActionKeeps (map does is)
+  pub each_does : (is : List Instruction) → AllOf ActionKeeps (map does is)
   each_does [] = tt
   each_does (i ∷ is) = (does_keeps i, each_does is)
 
-  each_binds : (vs : List Variable) → AllOf BindingKeeps (map binding_of vs)
+  pub each_binds : (vs : List Variable) → AllOf BindingKeeps (map binding_of vs)
   each_binds [] = tt
   each_binds (v ∷ vs) = (binding_keeps v, each_binds vs)
 
   pub body_keeps : (is : List Instruction) → ActionKeeps (body_does is)
   body_keeps is = order_keeps (map does is) (each_does is)
 
-  own_keeps : (handed : Option Value) {r q : Run Value} → Keeps r q → Keeps (or_own handed r) (or_own handed q)
+  pub own_keeps : (handed : Option Value) {r q : Run Value} → Keeps r q → Keeps (or_own handed r) (or_own handed q)
   own_keeps (Some value) k = pure_keeps value
   own_keeps None k = k
 
-  params_keep : (bs : List Binding) → AllOf BindingKeeps bs → (given : List Given) (call dall : Templates) → TemplatesKeep call dall → (c : Place)
+  pub params_keep : (bs : List Binding) → AllOf BindingKeeps bs → (given : List Given) (call dall : Templates) → TemplatesKeep call dall → (c : Place)
       → Keeps (params_in bs given W call c) (params_in bs given V dall c)
   params_keep [] a given call dall d c = pure_keeps c.locals
   params_keep (b ∷ bs) a given call dall d c =
@@ -342,12 +342,12 @@ module _ (sheet : Sheet) (globals : List Value) (w v : World) (x : Continues w v
   global_keeps : (global : Global) → Keeps (global_value global W) (global_value global V)
   global_keeps global = then_keeps spend_keeps (giving_keeps global.value (templates most_nested W) (templates most_nested V) (templates_keep most_nested) (place (alone 0) []))
 
-one_global_keeps : (sheet : Sheet) (w v : World) → Continues w v → (global : Option Global) (at : ℕ) (values : List Value)
+pub one_global_keeps : (sheet : Sheet) (w v : World) → Continues w v → (global : Option Global) (at : ℕ) (values : List Value)
     → Keeps (global_in sheet w global at values) (global_in sheet v global at values)
 one_global_keeps sheet w v x None at values = pure_keeps values
 one_global_keeps sheet w v x (Some global) at values = bind_keeps (global_keeps sheet values w v x global) (λ value. pure_keeps _)
 
-globals_keep : (sheet : Sheet) (w v : World) → Continues w v → (order : List ℕ) (values : List Value) → Keeps (globals_in sheet w order values) (globals_in sheet v order values)
+pub globals_keep : (sheet : Sheet) (w v : World) → Continues w v → (order : List ℕ) (values : List Value) → Keeps (globals_in sheet w order values) (globals_in sheet v order values)
 globals_keep sheet w v x [] values = pure_keeps values
 globals_keep sheet w v x (at ∷ order) values = bind_keeps (one_global_keeps sheet w v x (slice_get sheet.globals at) at values) (λ later. globals_keep sheet w v x order later)
 

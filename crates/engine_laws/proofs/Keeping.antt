@@ -108,7 +108,7 @@ ask_keeps o p h = record { later = λ s. ask_later o p s h; adds = ask_begins p 
 
 -- Bodies that are run apart.
 
-with_begins : (t u : State) (outer : List ResultEvent) → Begins t u → Begins (with_events t outer) (with_events u outer)
+pub with_begins : (t u : State) (outer : List ResultEvent) → Begins t u → Begins (with_events t outer) (with_events u outer)
 with_begins t u outer b = record { more_events = []; events = sym (append-nil outer); more_messages = b.more_messages; messages = b.messages }
 
 back_begins : {A : Type 0} (outer : List ResultEvent) (t : State) (p : Ran A) → Begins t (state_of p) → Begins (with_events t outer) (state_of (back_to outer p))
@@ -133,7 +133,7 @@ apart_keeps {r = r} {q} k = record {
 
 -- Items.
 
-ends_adds : (ending : Ending) (s : State) → Begins s (state_of (ends ending s))
+pub ends_adds : (ending : Ending) (s : State) → Begins s (state_of (ends ending s))
 ends_adds Whole s = begins_refl s
 ends_adds (Fault e) s = begins_refl s
 ends_adds (Cut m) s = begins_refl s
@@ -144,7 +144,7 @@ each_adds act a z at [] ending s = ends_adds ending s
 each_adds act a z at (n ∷ ns) ending s =
     begins_trans (a (at_item z at n) s) (after_adds (act (at_item z at n) s) (λ _. each act z (suc at) ns ending) (λ x t. each_adds act a z (suc at) ns ending t))
 
-each_keeps : {act bct : AtItem} → ((x : Context) → Keeps (act x) (bct x)) → (z : Size) (at : ℕ) (ns : List ℕ) (ending : Ending) → Keeps (each act z at ns ending) (each bct z at ns ending)
+pub each_keeps : {act bct : AtItem} → ((x : Context) → Keeps (act x) (bct x)) → (z : Size) (at : ℕ) (ns : List ℕ) (ending : Ending) → Keeps (each act z at ns ending) (each bct z at ns ending)
 each_keeps k z at [] ending = alone (ends_adds ending)
 each_keeps k z at (n ∷ ns) ending = then_keeps (k (at_item z at n)) (each_keeps k z (suc at) ns ending)
 
@@ -154,7 +154,7 @@ more_keeps : {act bct : AtItem} → ((x : Context) → Keeps (act x) (bct x)) �
 more_keeps {bct = bct} k z at m [] more ending = record { later = λ s. each_adds bct (λ x. (k x).adds) z at more ending s; adds = each_adds bct (λ x. (k x).adds) z at more ending }
 more_keeps k z at m (n ∷ ns) more ending = then_keeps (k (at_item z at n)) (more_keeps k z (suc at) m ns more ending)
 
-each_goes_on : {act bct : AtItem} → ((x : Context) → Keeps (act x) (bct x)) → (z : Size) (at : ℕ) (ns : List ℕ) (ending : Ending) (later : Stream) → GoesOnFrom ns ending later
+pub each_goes_on : {act bct : AtItem} → ((x : Context) → Keeps (act x) (bct x)) → (z : Size) (at : ℕ) (ns : List ℕ) (ending : Ending) (later : Stream) → GoesOnFrom ns ending later
     → Keeps (each act z at ns ending) (each bct z at later.items later.ending)
 each_goes_on {act} {bct} k z at ns Whole later h = subst (λ (w : Stream). Keeps (each act z at ns Whole) (each bct z at w.items w.ending)) (sym h) (each_keeps k z at ns Whole)
 each_goes_on {act} {bct} k z at ns (Fault e) later h = subst (λ (w : Stream). Keeps (each act z at ns (Fault e)) (each bct z at w.items w.ending)) (sym h) (each_keeps k z at ns (Fault e))

@@ -1,0 +1,13 @@
+pub mod Surfaces
+pub mod Layers
+pub mod Keeping
+pub mod Lasting
+pub mod Locals
+pub mod Ends
+pub mod Asks
+pub mod Instructions
+pub mod Selecting
+pub mod Variables
+pub mod Opening
+pub mod Items
+pub mod Frames

@@ -1,0 +1,9 @@
+pub mod Stand
+pub mod Apart
+pub mod Uses
+pub mod Work
+pub mod Rest
+pub mod Acted
+pub mod Selects
+pub mod Opened
+pub mod Start
