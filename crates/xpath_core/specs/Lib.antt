@@ -1,0 +1,4 @@
+pub mod Judged
+pub mod Ready
+pub mod Left
+pub mod Asked
