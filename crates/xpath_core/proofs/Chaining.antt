@@ -14,7 +14,7 @@ use Rattle.xpath_meaning.specs.Outcome.{Outcome, ◌>>=◌}
 use Rattle.xpath_meaning.specs.Reading.{Reading}
 use Rattle.xpath_nodes.proofs.Turning.{rest_of, no_rest, then_then}
 use Rattle.xpath_operations.proofs.Operating.{binary_is, plain_operand}
-use Rattle.xpath_operations.specs.Operands.{applied, kind_of, operand_by, operand_in}
+use Rattle.xpath_operations.specs.Operands.{applied, kind_of, operand_by}
 use Rattle.xpath_operations.specs.declared.operand.Operand.{Operand}
 use Rattle.xpath_syntax.specs.declared.expression.Expr.{Expr}
 use Rattle.xpath_syntax.specs.declared.expression.Expr.TheVariants as expr
@@ -31,12 +31,14 @@ going [] v R values c = Known v
 going (x ∷ xs) v R values c = on_value x.op v x.right.now R values c >>= λ w. going xs w R values c
 
 -- an operator on a value: the value as an operand, and then the operator with the right one
-pub on_value_is : (op : Op) (v : Value) (right : Expr) (R : Reading) (values : List Value) (c : Context) → on_value op v right R values c ≡ (operand_by (kind_of op) R v >>= λ x. applied op x (meant right) R values c)
+pub on_value_is : (op : Op) (v : Value) (right : Expr) (R : Reading) (values : List Value) (c : Context)
+    → on_value op v right R values c ≡ (operand_by (kind_of op) R v >>= λ x. applied op x (meant right) R values c)
 on_value_is op v right R values c =
     binary_is op (plain (λ R values c. Known v)) (meant right) R values c ∙ ap (λ o. o >>= λ x. applied op x (meant right) R values c) (plain_operand op (λ R values c. Known v) R values c)
 
 -- an operation on what is plain: its value, and then the operator on it
-plain_left : (op : Op) (f : Meaning (Outcome Value)) (right : Expr) (R : Reading) (values : List Value) (c : Context) → binary op (plain f) (meant right) R values c ≡ (f R values c >>= λ v. on_value op v right R values c)
+plain_left : (op : Op) (f : Meaning (Outcome Value)) (right : Expr) (R : Reading) (values : List Value) (c : Context)
+    → binary op (plain f) (meant right) R values c ≡ (f R values c >>= λ v. on_value op v right R values c)
 plain_left op f right R values c =
     binary_is op (plain f) (meant right) R values c
     ∙ ap (λ o. o >>= λ x. applied op x (meant right) R values c) (plain_operand op f R values c)
@@ -53,7 +55,8 @@ no_more (Known v) = refl
 no_more (Fault e) = refl
 no_more (Open m) = refl
 
-goes : (xs : List Applied) (e : Expr) (f : Meaning (Outcome Value)) (R : Reading) (values : List Value) (c : Context) → meant e ≡ plain f → (meant (chained e xs)).value R values c ≡ (f R values c >>= λ v. going xs v R values c)
+goes : (xs : List Applied) (e : Expr) (f : Meaning (Outcome Value)) (R : Reading) (values : List Value) (c : Context) → meant e ≡ plain f
+    → (meant (chained e xs)).value R values c ≡ (f R values c >>= λ v. going xs v R values c)
 goes [] e f R values c p = ap (λ (m : Meant). m.value R values c) p ∙ no_more (f R values c)
 goes (x ∷ xs) e f R values c p =
     goes xs (expr.Binary x.op e x.right.now) (binary x.op (meant e) (meant x.right.now)) R values c (binary_means x.op e x.right.now)
@@ -91,19 +94,22 @@ pub taking_starts : (f : Function) (args : List Expr) (none : List Operand) (R :
     → arguments f 0 (map meant args) R values c ≡ taking f (length none) (drop 0 args) none R values c
 taking_starts f args none R values c e = again (arguments f 0 (map meant args) R values c) none e ∙ ap (λ (at : ℕ). taking f at args none R values c) (sym (ap length e))
 
-takes_one : (a : Outcome Operand) (o : Outcome (List Operand)) (taken : List Operand) → ((a >>= λ y. o >>= λ ys. Known (y ∷ ys)) >>= λ more. Known (taken ++ more)) ≡ (a >>= λ y. o >>= λ more. Known ((taken ++ y ∷ []) ++ more))
+takes_one : (a : Outcome Operand) (o : Outcome (List Operand)) (taken : List Operand)
+    → ((a >>= λ y. o >>= λ ys. Known (y ∷ ys)) >>= λ more. Known (taken ++ more)) ≡ (a >>= λ y. o >>= λ more. Known ((taken ++ y ∷ []) ++ more))
 takes_one (Known y) (Known ys) taken = ap Known (sym (append_assoc taken (y ∷ []) ys))
 takes_one (Known y) (Fault f) taken = refl
 takes_one (Known y) (Open m) taken = refl
 takes_one (Fault f) o taken = refl
 takes_one (Open m) o taken = refl
 
-pub taking_turns : (f : Function) (args : List Expr) (i : ℕ) (x : Expr) (at next : ℕ) (taken : List Operand) (R : Reading) (values : List Value) (c : Context) → i < length args → x ≡ get_or args i x → next ≡ suc at
+pub taking_turns : (f : Function) (args : List Expr) (i : ℕ) (x : Expr) (at next : ℕ) (taken : List Operand) (R : Reading) (values : List Value) (c : Context) → i < length args
+    → x ≡ get_or args i x → next ≡ suc at
     → taking f at (drop i args) taken R values c ≡ (argument (kind_at f at) (meant x) R values c >>= λ y. taking f next (drop (i + 1) args) (taken ++ y ∷ []) R values c)
 taking_turns f args i x at next taken R values c h e n =
     ap (λ left. taking f at left taken R values c) (rest_of args i x h ∙ ap (λ y. y ∷ drop (i + 1) args) (sym e))
     ∙ takes_one (argument (kind_at f at) (meant x) R values c) (arguments f (suc at) (map meant (drop (i + 1) args)) R values c) taken
     ∙ ap (λ (k : ℕ). argument (kind_at f at) (meant x) R values c >>= λ y. taking f k (drop (i + 1) args) (taken ++ y ∷ []) R values c) (sym n)
 
-pub taking_ends : (f : Function) (args : List Expr) (i at : ℕ) (taken : List Operand) (R : Reading) (values : List Value) (c : Context) → length args ≤ i → taking f at (drop i args) taken R values c ≡ Known taken
+pub taking_ends : (f : Function) (args : List Expr) (i at : ℕ) (taken : List Operand) (R : Reading) (values : List Value) (c : Context) → length args ≤ i
+    → taking f at (drop i args) taken R values c ≡ Known taken
 taking_ends f args i at taken R values c h = ap (λ left. taking f at left taken R values c) (no_rest args i h) ∙ ap Known (append-nil taken)

@@ -1,5 +1,5 @@
 -- The first item of a path stays told and is there; what the left operand decides; arguments of functions.
-use Rattle.std.proofs.Common.{◌≡◌, refl, sym, ap, ◌∙◌, subst, ℕ, List, length, map, Option, Some, None, Ok}
+use Rattle.std.proofs.Common.{◌≡◌, sym, ap, ◌∙◌, ℕ, List, length, map, Option, Some, None, Ok}
 use Rattle.std.proofs.lemmas.List.{length-map}
 use Rattle.doc_model.specs.declared.step.Step.{Step}
 use Rattle.doc_model.specs.declared.strip_rule.StripRule.{StripRule}

@@ -61,11 +61,13 @@ stepped_on s t n last k m p = subst (λ rules. Stepped rules t.steps n last k) (
   one = given_stays s.rules s.steps t.steps n (Some k) m.grows p.now ∙ p.one ∙ ap (λ xs. xs ++ k ∷ []) (sym (given_stays s.rules s.steps t.steps n last m.grows p.before));
 })
 
-pub meets_on : {M : Type 0} (s t : Seen M) (test : _) (k : ℕ) (b : Bool) → Moves s t → IsJoined s.steps k → meets Element test (row_at (rows_of s.steps) k) ≡ b → meets Element test (row_at (rows_of t.steps) k) ≡ b
+pub meets_on : {M : Type 0} (s t : Seen M) (test : _) (k : ℕ) (b : Bool) → Moves s t → IsJoined s.steps k → meets Element test (row_at (rows_of s.steps) k) ≡ b
+    → meets Element test (row_at (rows_of t.steps) k) ≡ b
 meets_on s t test k b m j e = ap (λ (row : Row). meets Element test row) (row_later s.steps t.steps k m.grows j) ∙ e
 
 -- a level at a later child
-later_level : (rules : List StripRule) (steps : List Step) (level : Level) (new : ChildStream) (k : ℕ) (counts : List ℕ) (entering : Option ℕ) → Stepped rules steps level.node level.children.last k → new.n ≡ level.node → new.last ≡ Some k → Each (λ n. n ≤ suc k) counts
+later_level : (rules : List StripRule) (steps : List Step) (level : Level) (new : ChildStream) (k : ℕ) (counts : List ℕ) (entering : Option ℕ)
+    → Stepped rules steps level.node level.children.last k → new.n ≡ level.node → new.last ≡ Some k → Each (λ n. n ≤ suc k) counts
     → IsEntered rules steps entering → IsLater rules steps level (record { node = level.node; children = new; counts = counts }) entering
 later_level rules steps level new k counts entering p e l a i = record {
   level = record {
@@ -82,10 +84,12 @@ counts_within : (most k : ℕ) (counts : List ℕ) → most ≤ k → Each (λ n
 counts_within most k counts l a = each_weaker (λ n. n ≤ most) (λ n. n ≤ k) counts (λ n h. omega arith) a
 
 -- a child that does not meet the test
-pub follows_other : {M : Type 0} (lookups : Lookups) (t : Seen M) (step : MeantStep) (level : Level) (values : List Value) (c : Context) (new : ChildStream) (k : ℕ) → IsLevel t.rules t.steps level → Stepped t.rules t.steps level.node level.children.last k → new.n ≡ level.node → new.last ≡ Some k
+pub follows_other : {M : Type 0} (lookups : Lookups) (t : Seen M) (step : MeantStep) (level : Level) (values : List Value) (c : Context) (new : ChildStream) (k : ℕ)
+    → IsLevel t.rules t.steps level → Stepped t.rules t.steps level.node level.children.last k → new.n ≡ level.node → new.last ≡ Some k
     → meets Element (test_of step.test) (row_at (rows_of t.steps) k) ≡ false → Follows lookups t.rules t.steps step level values c (child.Other k new)
 follows_other lookups t step level values c new k i p e l fails = record {
-  left = λ inside q g h. at_other step inside level new (reading_by lookups t.rules q) values c k _ fails l (kid_behind lookups t.rules t.steps q level.node (test_of step.test) level.children.last k g p);
+  left = λ inside q g h. at_other step inside level new (reading_by lookups t.rules q) values c k _ fails l
+      (kid_behind lookups t.rules t.steps q level.node (test_of step.test) level.children.last k g p);
   stands =
       let b = more t.rules t.steps level.node level.children.last k p in
       later_level t.rules t.steps level new k level.counts None p e l (counts_within (most_of level.children.last) (suc k) level.counts (omega (arith, b)) i.counts) tt;
@@ -96,7 +100,8 @@ entered_if rules steps true k h = h
 entered_if rules steps false k h = tt
 
 -- one that was tested
-pub follows_tested : {M : Type 0} (lookups : Lookups) (s t : Seen M) (step : MeantStep) (level : Level) (values : List Value) (c : Context) (new : ChildStream) (k : ℕ) (x : Tested) → Moves s t → IsLevel s.rules s.steps level → Stepped s.rules s.steps level.node level.children.last k
+pub follows_tested : {M : Type 0} (lookups : Lookups) (s t : Seen M) (step : MeantStep) (level : Level) (values : List Value) (c : Context) (new : ChildStream) (k : ℕ) (x : Tested)
+    → Moves s t → IsLevel s.rules s.steps level → Stepped s.rules s.steps level.node level.children.last k
     → new.n ≡ level.node → new.last ≡ Some k → meets Element (test_of step.test) (row_at (rows_of s.steps) k) ≡ true
     → Keeps (λ R. tested step.predicates level.counts k R values c) → Says lookups (λ R. tested step.predicates level.counts k R values c) s t (Ok (record { counts = x.counts; passed = x.passed }))
     → Follows lookups t.rules t.steps step level values c (child.Tested k new x)
@@ -116,31 +121,39 @@ follows_tested lookups s t step level values c new k x m i p e l holds keeps say
     }
 
 -- one at which a predicate stops
-pub stops_tested : {M : Type 0} (lookups : Lookups) (s t : Seen M) (step : MeantStep) (level : Level) (values : List Value) (c : Context) (k : ℕ) (stop : EvalStop) → Moves s t → Stepped s.rules s.steps level.node level.children.last k
+pub stops_tested : {M : Type 0} (lookups : Lookups) (s t : Seen M) (step : MeantStep) (level : Level) (values : List Value) (c : Context) (k : ℕ) (stop : EvalStop) → Moves s t
+    → Stepped s.rules s.steps level.node level.children.last k
     → meets Element (test_of step.test) (row_at (rows_of s.steps) k) ≡ true → Says {A = items.Tested} lookups (λ R. tested step.predicates level.counts k R values c) s t (Err stop)
     → (inside : Reading → ℕ → Stream) → Says {A = Option ℕ} lookups (λ R. first_item (level_left step (inside R) level R values c)) s t (Err stop)
 stops_tested lookups s t step level values c k stop m p holds says inside =
     says_steps (Err stop) m
     (λ q g h. subst (λ rules. first_item (level_left step (inside (reading_by lookups rules q)) level (reading_by lookups rules q) values c)
-    ≡ answer.and_then (tested step.predicates level.counts k (reading_by lookups rules q) values c) (λ x. first_item (behind_tested step (inside (reading_by lookups rules q)) level (reading_by lookups rules q) values c k x)))
+    ≡ answer.and_then (tested step.predicates level.counts k (reading_by lookups rules q) values c)
+    (λ x. first_item (behind_tested step (inside (reading_by lookups rules q)) level (reading_by lookups rules q) values c k x)))
     (sym m.rules_stay)
-    (ap first_item (at_tested step (inside (reading_by lookups s.rules q)) level (reading_by lookups s.rules q) values c k _ holds (kid_behind lookups s.rules s.steps q level.node (test_of step.test) level.children.last k g p))
-    ∙ first_of_stream (tested step.predicates level.counts k (reading_by lookups s.rules q) values c) (behind_tested step (inside (reading_by lookups s.rules q)) level (reading_by lookups s.rules q) values c k)))
+    (ap first_item (at_tested step (inside (reading_by lookups s.rules q)) level (reading_by lookups s.rules q) values c k _ holds
+    (kid_behind lookups s.rules s.steps q level.node (test_of step.test) level.children.last k g p))
+    ∙ first_of_stream (tested step.predicates level.counts k (reading_by lookups s.rules q) values c)
+    (behind_tested step (inside (reading_by lookups s.rules q)) level (reading_by lookups s.rules q) values c k)))
     (says_stops (λ R x. first_item (behind_tested step (inside R) level R values c k x)) says)
 
 -- ---- no more children
 
-at_end : (step : MeantStep) (inside : ℕ → Stream) (level : Level) (R : Reading) (values : List Value) (c : Context) (ns : List ℕ) (ending : _) → R.children (test_of step.test) level.node ≡ record { items = ns; ending = ending } → behind_node level.children.last ns ≡ []
+at_end : (step : MeantStep) (inside : ℕ → Stream) (level : Level) (R : Reading) (values : List Value) (c : Context) (ns : List ℕ) (ending : _)
+    → R.children (test_of step.test) level.node ≡ record { items = ns; ending = ending } → behind_node level.children.last ns ≡ []
     → level_left step inside level R values c ≡ record { items = []; ending = ending }
 at_end step inside level R values c ns ending e n =
-    ap (λ (s : Stream). through step.predicates inside level.counts (behind_node level.children.last s.items) s.ending R values c) e ∙ ap (λ xs. through step.predicates inside level.counts xs ending R values c) n
+    ap (λ (s : Stream). through step.predicates inside level.counts (behind_node level.children.last s.items) s.ending R values c) e
+    ∙ ap (λ xs. through step.predicates inside level.counts xs ending R values c) n
 
-all_shut : {M : Type 0} (lookups : Lookups) (t : Seen M) (test : _) (n : ℕ) (q : List Step) → IsJoined t.steps n → is_open t.steps n ≡ false → Grows t.steps q → IsLawful q → (reading_by lookups t.rules q).children test n ≡ record { items = kids t.rules (rows_of t.steps) n test; ending = Whole }
+all_shut : {M : Type 0} (lookups : Lookups) (t : Seen M) (test : _) (n : ℕ) (q : List Step) → IsJoined t.steps n → is_open t.steps n ≡ false → Grows t.steps q → IsLawful q
+    → (reading_by lookups t.rules q).children test n ≡ record { items = kids t.rules (rows_of t.steps) n test; ending = Whole }
 all_shut lookups t test n q j o g h =
     subst (λ s. GoesOn s ((reading_by lookups t.rules q).children test n)) (children_are lookups t.rules t.steps test n false j o)
     ((reading_extends value_lasts t.rules lookups.keys lookups.id t.steps q g h).children test n)
 
-pub follows_none : {M : Type 0} (lookups : Lookups) (s t : Seen M) (step : MeantStep) (level : Level) (values : List Value) (c : Context) (new : ChildStream) → Moves s t → IsLevel s.rules s.steps level → StreamIs s t level.children new look.Nothing → Follows lookups t.rules t.steps step level values c child.None
+pub follows_none : {M : Type 0} (lookups : Lookups) (s t : Seen M) (step : MeantStep) (level : Level) (values : List Value) (c : Context) (new : ChildStream) → Moves s t
+    → IsLevel s.rules s.steps level → StreamIs s t level.children new look.Nothing → Follows lookups t.rules t.steps step level values c child.None
 follows_none lookups s t step level values c new m i e =
     let l = level_on s t level m i in
     let shut = ap (is_open t.steps) (sym l.node) ∙ e.1 in
@@ -151,7 +164,8 @@ follows_none lookups s t step level values c new m i e =
       stands = tt;
     }
 
-pub stops_none : {M : Type 0} (lookups : Lookups) (s t : Seen M) (step : MeantStep) (level : Level) (values : List Value) (c : Context) (new : ChildStream) → Moves s t → IsLevel s.rules s.steps level → StreamIs s t level.children new look.NotYet
+pub stops_none : {M : Type 0} (lookups : Lookups) (s t : Seen M) (step : MeantStep) (level : Level) (values : List Value) (c : Context) (new : ChildStream) → Moves s t
+    → IsLevel s.rules s.steps level → StreamIs s t level.children new look.NotYet
     → (inside : Reading → ℕ → Stream) → Says {A = Option ℕ} lookups (λ R. first_item (level_left step (inside R) level R values c)) s t (Err (NotYet level.node))
 stops_none lookups s t step level values c new m i e inside =
     let p = e.0.0 in
@@ -165,7 +179,8 @@ stops_none lookups s t step level values c new m i e inside =
         p,
         g,
         e.0.2,
-        ap first_item (at_end step (inside (reading_by lookups t.rules p)) level (reading_by lookups t.rules p) values c _ (Cut level.node) (children_are lookups t.rules p (test_of step.test) level.node true j opened)
+        ap first_item (at_end step (inside (reading_by lookups t.rules p)) level (reading_by lookups t.rules p) values c _ (Cut level.node)
+            (children_are lookups t.rules p (test_of step.test) level.node true j opened)
             (none_behind t.rules (rows_of p) level.node (test_of step.test) level.children.last stands all)),
       );
     }
@@ -187,7 +202,8 @@ pub record Came {M : Type 0} (s u : Seen M) (part : StepExpr) (level : Level) (n
   pub last : new.last ≡ Some k
   pub is_met : meets Element (test_of (meant_step part).test) (row_at (rows_of u.steps) k) ≡ met
 
-pub came : {M : Type 0} (s t u : Seen M) (part : StepExpr) (test : Test) (level : Level) (new : ChildStream) (k : ℕ) (met : Bool) → Moves s t → Moves t u → IsLevel s.rules s.steps level → StreamIs s t level.children new (look.Node k) → test ≡ test_in part
+pub came : {M : Type 0} (s t u : Seen M) (part : StepExpr) (test : Test) (level : Level) (new : ChildStream) (k : ℕ) (met : Bool) → Moves s t → Moves t u
+    → IsLevel s.rules s.steps level → StreamIs s t level.children new (look.Node k) → test ≡ test_in part
     → met ≡ meets Element test (row_at (rows_of u.steps) k) → Came s u part level new k met
 came s t u part test level new k met m n l i e h =
     let p = stepped s t level new k m l i in
@@ -200,38 +216,47 @@ came s t u part test level new k met m n l i e h =
       is_met = ap (λ x. meets Element x (row_at (rows_of u.steps) k)) (sym (test_is part test e)) ∙ sym h;
     }
 
-pub came_other : {M : Type 0} {s u : Seen M} {part : StepExpr} {level : Level} {new : ChildStream} {k : ℕ} {met : Bool} (lookups : Lookups) (values : List Value) (c : Context) → Came s u part level new k met → met ≡ false
+pub came_other : {M : Type 0} {s u : Seen M} {part : StepExpr} {level : Level} {new : ChildStream} {k : ℕ} {met : Bool} (lookups : Lookups) (values : List Value) (c : Context)
+    → Came s u part level new k met → met ≡ false
     → Follows lookups u.rules u.steps (meant_step part) level values c (child.Other k new)
 came_other {u = u} {part} {level} {new} {k} lookups values c a e = follows_other lookups u (meant_step part) level values c new k a.there a.stepped a.node a.last (a.is_met ∙ e)
 
-as_tested : {M : Type 0} {lookups : Lookups} {s t : Seen M} {result : Result items.Tested EvalStop} (part : StepExpr) (k : ℕ) (values : List Value) (c : Context) (es : List Expr) (counts now : List ℕ) → es ≡ (out-StepExpr part).predicates → now ≡ counts
+as_tested : {M : Type 0} {lookups : Lookups} {s t : Seen M} {result : Result items.Tested EvalStop} (part : StepExpr) (k : ℕ) (values : List Value) (c : Context) (es : List Expr)
+    (counts now : List ℕ) → es ≡ (out-StepExpr part).predicates → now ≡ counts
     → Says lookups (λ R. tested (map meant es) now k R values c) s t result → Says lookups (λ R. tested (meant_step part).predicates counts k R values c) s t result
 as_tested {lookups = lookups} {s} {t} {result} part k values c es counts now e f a =
     subst (λ ns. Says lookups (λ R. tested (meant_step part).predicates ns k R values c) s t result) f
     (subst (λ ms. Says lookups (λ R. tested ms now k R values c) s t result) (predicates_are part es e) a)
 
 step_tests : (part : StepExpr) (counts : List ℕ) (k : ℕ) (values : List Value) (c : Context) → Keeps (λ R. tested (meant_step part).predicates counts k R values c)
-step_tests part counts k values c = subst (λ ms. Keeps (λ R. tested ms counts k R values c)) (predicates_are part (out-StepExpr part).predicates refl) (tested_kept (out-StepExpr part).predicates counts k values c)
+step_tests part counts k values c =
+    subst (λ ms. Keeps (λ R. tested ms counts k R values c)) (predicates_are part (out-StepExpr part).predicates refl) (tested_kept (out-StepExpr part).predicates counts k values c)
 
-pub came_tested : {M : Type 0} {s u w : Seen M} {part : StepExpr} {level : Level} {new : ChildStream} {k : ℕ} {met : Bool} (lookups : Lookups) (values : List Value) (c : Context) (x : Tested) (es : List Expr) (now : List ℕ) → Came s u part level new k met → met ≡ true → Moves u w
+pub came_tested : {M : Type 0} {s u w : Seen M} {part : StepExpr} {level : Level} {new : ChildStream} {k : ℕ} {met : Bool} (lookups : Lookups) (values : List Value) (c : Context)
+    (x : Tested) (es : List Expr) (now : List ℕ) → Came s u part level new k met → met ≡ true → Moves u w
     → es ≡ (out-StepExpr part).predicates → now ≡ level.counts → Says lookups (λ R. tested (map meant es) now k R values c) u w (Ok (record { counts = x.counts; passed = x.passed }))
     → Follows lookups w.rules w.steps (meant_step part) level values c (child.Tested k new x)
 came_tested {u = u} {w} {part} {level} {new} {k} lookups values c x es now a e m f g says =
-    follows_tested lookups u w (meant_step part) level values c new k x m a.there a.stepped a.node a.last (a.is_met ∙ e) (step_tests part level.counts k values c) (as_tested part k values c es level.counts now f g says)
+    follows_tested lookups u w (meant_step part) level values c new k x m a.there a.stepped a.node a.last (a.is_met ∙ e) (step_tests part level.counts k values c)
+    (as_tested part k values c es level.counts now f g says)
 
-pub came_stops : {M : Type 0} {s u w : Seen M} {part : StepExpr} {level : Level} {new : ChildStream} {k : ℕ} {met : Bool} {lookups : Lookups} (values : List Value) (c : Context) (stop : EvalStop) (es : List Expr) (now : List ℕ) → Came s u part level new k met → met ≡ true → Moves u w
+pub came_stops : {M : Type 0} {s u w : Seen M} {part : StepExpr} {level : Level} {new : ChildStream} {k : ℕ} {met : Bool} {lookups : Lookups} (values : List Value) (c : Context)
+    (stop : EvalStop) (es : List Expr) (now : List ℕ) → Came s u part level new k met → met ≡ true → Moves u w
     → es ≡ (out-StepExpr part).predicates → now ≡ level.counts → Says {A = items.Tested} lookups (λ R. tested (map meant es) now k R values c) u w (Err stop)
     → (inside : Reading → ℕ → Stream) → Says {A = Option ℕ} lookups (λ R. first_item (level_left (meant_step part) (inside R) level R values c)) s w (Err stop)
 came_stops {u = u} {w} {part} {level} {k = k} {lookups = lookups} values c stop es now a e m f g says inside =
     says_after a.moves (stops_tested lookups u w (meant_step part) level values c k stop m a.stepped (a.is_met ∙ e) (as_tested part k values c es level.counts now f g says) inside)
 
 -- the exit of a `?`
-pub stops_exit : {M : Type 0} (lookups : Lookups) (step : MeantStep) (level : Level) (values : List Value) (c : Context) (s t : Seen M) (e : EvalStop) (result : Result Child EvalStop) → IsErrAnd result (λ d. d ≡ e)
+pub stops_exit : {M : Type 0} (lookups : Lookups) (step : MeantStep) (level : Level) (values : List Value) (c : Context) (s t : Seen M) (e : EvalStop)
+    (result : Result Child EvalStop) → IsErrAnd result (λ d. d ≡ e)
     → ((inside : Reading → ℕ → Stream) → Says {A = Option ℕ} lookups (λ R. first_item (level_left step (inside R) level R values c)) s t (Err e)) → StopsLevel lookups step level values c s t result
-stops_exit lookups step level values c s t e (Err d) is a = λ inside. subst (λ x. Says {A = Option ℕ} lookups (λ R. first_item (level_left step (inside R) level R values c)) s t (Err x)) (sym is) (a inside)
+stops_exit lookups step level values c s t e (Err d) is a =
+    λ inside. subst (λ x. Says {A = Option ℕ} lookups (λ R. first_item (level_left step (inside R) level R values c)) s t (Err x)) (sym is) (a inside)
 stops_exit lookups step level values c s t e (Ok x) is a = absurd is
 
-pub counts_few : {M : Type 0} (u : Seen M) (level : Level) (k : ℕ) (counts : List ℕ) → IsSeen u → IsLevel u.rules u.steps level → Stepped u.rules u.steps level.node level.children.last k → counts ≡ level.counts → Each (λ n. n < 2 ^ 32) counts
+pub counts_few : {M : Type 0} (u : Seen M) (level : Level) (k : ℕ) (counts : List ℕ) → IsSeen u → IsLevel u.rules u.steps level
+    → Stepped u.rules u.steps level.node level.children.last k → counts ≡ level.counts → Each (λ n. n < 2 ^ 32) counts
 counts_few u level k counts i l p e =
     let b = more u.rules u.steps level.node level.children.last k p in
     let a = p.now.0 in

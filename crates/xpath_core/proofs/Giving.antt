@@ -16,13 +16,15 @@ use Rattle.xpath_syntax.specs.declared.expression.Path.{Path, out-Path}
 use Rattle.xpath_values.specs.declared.value.Value.{Value}
 
 -- what is said of the place is said of the items behind those that were given
-pub streamed : {M : Type 0} {lookups : Lookups} {s t : Seen M} {values : List Value} (stream : PathStream) (result : Result (Option ℕ) EvalStop) → Moves s t → IsStreaming lookups s.rules s.steps values stream
+pub streamed : {M : Type 0} {lookups : Lookups} {s t : Seen M} {values : List Value} (stream : PathStream) (result : Result (Option ℕ) EvalStop) → Moves s t
+    → IsStreaming lookups s.rules s.steps values stream
     → Says lookups (λ R. first_item (left_at (out-Path stream.path.now).parts stream.place R values stream.context)) s t result
     → Says lookups (λ R. item_behind R stream.path.now stream.given values stream.context) s t result
 streamed {lookups = lookups} {s} {t} {values} stream result m w a =
     says_steps result m
     (λ q g l. ap first_item
-    (subst (λ rules. behind_first stream.given (path_items_of (reading_by lookups rules q) stream.path.now values stream.context) ≡ left_at (out-Path stream.path.now).parts stream.place (reading_by lookups rules q) values stream.context)
+    (subst (λ rules. behind_first stream.given (path_items_of (reading_by lookups rules q) stream.path.now values stream.context)
+    ≡ left_at (out-Path stream.path.now).parts stream.place (reading_by lookups rules q) values stream.context)
     (sym m.rules_stay) (w.left q g l)))
     a
 
@@ -31,7 +33,8 @@ pub gave_none : (P : EvalStop → Type 0) (given : ℕ) (result : Result (Option
 gave_none P given (Ok x) is = absurd is
 gave_none P given (Err e) is = omega arith
 
-pub streams_on : {M : Type 0} {lookups : Lookups} {s t : Seen M} {values : List Value} (old new : PathStream) (result : Result (Option ℕ) EvalStop) → Moves s t → IsStreaming lookups s.rules s.steps values old → Took old new result
+pub streams_on : {M : Type 0} {lookups : Lookups} {s t : Seen M} {values : List Value} (old new : PathStream) (result : Result (Option ℕ) EvalStop) → Moves s t
+    → IsStreaming lookups s.rules s.steps values old → Took old new result
     → IsPlace t.rules t.steps (out-Path old.path.now).parts new.place → IsLeft lookups t.rules t.steps (out-Path old.path.now).parts values old.context old.place new.place result
     → IsStreaming lookups t.rules t.steps values new
 streams_on {lookups = lookups} {s} {t} {values} old new result m w k p f = record {
@@ -42,7 +45,8 @@ streams_on {lookups = lookups} {s} {t} {values} old new result m w k p f = recor
       ∙ ap (λ path. behind_first (old.given + length (taken_in result)) (path_items_of R path values new.context)) k.path
       ∙ ap (λ (c : Context). behind_first (old.given + length (taken_in result)) (path_items_of R old.path.now values c)) k.context
       ∙ behind_result old.given (path_items_of R old.path.now values old.context) (left_at (out-Path old.path.now).parts new.place R values old.context) result
-      (subst (λ rules. behind_first old.given (path_items_of (reading_by lookups rules q) old.path.now values old.context) ≡ left_at (out-Path old.path.now).parts old.place (reading_by lookups rules q) values old.context)
+      (subst (λ rules. behind_first old.given (path_items_of (reading_by lookups rules q) old.path.now values old.context)
+      ≡ left_at (out-Path old.path.now).parts old.place (reading_by lookups rules q) values old.context)
       (sym m.rules_stay) (w.left q (Grows-trans s.steps t.steps q m.grows g) l)
       ∙ f.left q g l)
       ∙ ap (λ (c : Context). left_at (out-Path old.path.now).parts new.place R values c) (sym k.context)

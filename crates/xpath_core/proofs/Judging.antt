@@ -1,5 +1,5 @@
 -- How an operand, and a predicate, is made of a value or of a first item.
-use Rattle.std.proofs.Common.{◌≡◌, refl, sym, ap, ◌∙◌, subst, ℕ, List, Bool, true, false, Option, Some, None, inl, inr}
+use Rattle.std.proofs.Common.{◌≡◌, refl, sym, ap, ◌∙◌, ℕ, List, Bool, true, false, Option, Some, None, inl, inr}
 use Rattle.std.proofs.lemmas.Bool.{false≢true}
 use Rattle.std.specs.Option.{is_some}
 use Rattle.doc_model.specs.Answers.{Known, Fault, Open}
@@ -15,7 +15,6 @@ use Rattle.xpath_meaning.specs.Reading.{Reading}
 use Rattle.xpath_meaning.specs.Streams.{Stream, first_item}
 use Rattle.xpath_operations.proofs.Operating.{by_kind}
 use Rattle.xpath_operations.specs.Operands.{is_converted, operand_as, operand_by, operand_of_first}
-use Rattle.xpath_operations.specs.declared.operand.Operand.{Operand}
 use Rattle.xpath_operations.specs.declared.operand.Operand.TheVariants.{Truth, Number, Nodes, Text}
 use Rattle.xpath_operations.specs.declared.operand.OperandKind.{OperandKind}
 use Rattle.xpath_operations.specs.declared.operand.OperandKind.TheVariants as kind
@@ -43,7 +42,8 @@ by_no_conversion kind.Nodes m R values c e = then_nodes (m.value R values c)
 by_no_conversion kind.Whole m R values c e = refl
 by_no_conversion kind.Text m R values c e = absurd (false≢true (sym e))
 
-pub operand_by_value : (k : OperandKind) (e : Expr) → JudgedByValue k e → (R : Reading) (values : List Value) (c : Context) → operand_as k (meant e) R values c ≡ ((meant e).value R values c >>= λ v. operand_by k R v)
+pub operand_by_value : (k : OperandKind) (e : Expr) → JudgedByValue k e → (R : Reading) (values : List Value) (c : Context)
+    → operand_as k (meant e) R values c ≡ ((meant e).value R values c >>= λ v. operand_by k R v)
 operand_by_value k e (inl n) R values c = ap (λ (m : Meant). operand_as k m R values c) (is_plain (meant e) n) ∙ by_kind k (meant e).value R values c
 operand_by_value k e (inr n) R values c = by_no_conversion k (meant e) R values c n
 
@@ -79,7 +79,8 @@ pub operand_by_first : (k : OperandKind) (e : Expr) (path : Path) → JudgedByFi
 operand_by_first k e path j R values c =
     ap (λ (m : Meant). operand_as k m R values c) (has_items (meant e) (path_items (meant_path path)) j.items) ∙ by_first k (meant e).value (path_items (meant_path path)) R values c j.converted
 
-pub holds_by_value : (e : Expr) → JudgedByValue kind.Truth e → (R : Reading) (values : List Value) (c : Context) → holds_at (meant e) R values c ≡ ((meant e).value R values c >>= λ v. Known (holds v c.position))
+pub holds_by_value : (e : Expr) → JudgedByValue kind.Truth e → (R : Reading) (values : List Value) (c : Context)
+    → holds_at (meant e) R values c ≡ ((meant e).value R values c >>= λ v. Known (holds v c.position))
 holds_by_value e (inl n) R values c = ap (λ (m : Meant). holds_at m R values c) (is_plain (meant e) n)
 holds_by_value e (inr n) R values c = absurd (false≢true (sym n))
 

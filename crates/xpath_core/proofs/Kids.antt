@@ -29,7 +29,9 @@ node_if false n ns = ns
 -- none of which it holds between two ends up to which the same numbers are found
 none_between : (f : ℕ → Bool) (a b : ℕ) → a ≤ b → filter f (numbers 0 b) ≡ filter f (numbers 0 a) → (j : ℕ) → a ≤ j → j < b → f j ≡ false
 none_between f a b l e j x y =
-    let split : filter f (numbers 0 b) ≡ filter f (numbers 0 a) ++ filter f (numbers a (b - a)) = ap (λ k. filter f (numbers 0 k)) (let s : b ≡ a + (b - a) = omega arith in s) ∙ filter-split f 0 a (b - a) ∙ ap (λ n. filter f (numbers 0 a) ++ filter f (numbers n (b - a))) (let z : 0 + a ≡ a = omega arith in z) in
+    let split : filter f (numbers 0 b) ≡ filter f (numbers 0 a) ++ filter f (numbers a (b - a)) =
+    ap (λ k. filter f (numbers 0 k)) (let s : b ≡ a + (b - a) = omega arith in s) ∙ filter-split f 0 a (b - a)
+    ∙ ap (λ n. filter f (numbers 0 a) ++ filter f (numbers n (b - a))) (let z : 0 + a ≡ a = omega arith in z) in
     let none : filter f (numbers a (b - a)) ≡ [] = append_cancel_left (filter f (numbers 0 a)) (filter f (numbers a (b - a))) [] (sym split ∙ e ∙ sym (append-nil (filter f (numbers 0 a)))) in
     filter_none_no f a (b - a) j none x (omega arith)
 
@@ -56,7 +58,8 @@ selected_shown rules rows n test j e = by (is_visible rules rows j) (meets Eleme
     by true false k e = refl
     by false m k e = refl
 
-selected_meets : (rules : List StripRule) (rows : List Row) (n : ℕ) (test : Test) (j : ℕ) → is_shown rules rows n j ≡ true → is_selected rules rows n axis.Child test j ≡ meets Element test (row_at rows j)
+selected_meets : (rules : List StripRule) (rows : List Row) (n : ℕ) (test : Test) (j : ℕ) → is_shown rules rows n j ≡ true
+    → is_selected rules rows n axis.Child test j ≡ meets Element test (row_at rows j)
 selected_meets rules rows n test j e = by (is_visible rules rows j) (meets Element test (row_at rows j)) (is_child rows n j) (and_parts _ _ e).0 (and_parts _ _ e).1
   where
     by : (v m k : Bool) → v ≡ true → k ≡ true → (v && (m && k)) ≡ m
@@ -83,7 +86,8 @@ behind_is rules rows n test None s = ap (λ k. filter (is_selected rules rows n 
 behind_is rules rows n test (Some k) s = after_of (is_selected rules rows n axis.Child test) k (length rows) s.0
 
 -- all were given
-pub none_behind : (rules : List StripRule) (rows : List Row) (n : ℕ) (test : Test) (last : Option ℕ) → StandsTo rules rows n last → given_to rules rows n last ≡ shown_of rules rows n → behind_node last (kids rules rows n test) ≡ []
+pub none_behind : (rules : List StripRule) (rows : List Row) (n : ℕ) (test : Test) (last : Option ℕ) → StandsTo rules rows n last
+    → given_to rules rows n last ≡ shown_of rules rows n → behind_node last (kids rules rows n test) ≡ []
 none_behind rules rows n test last s e =
     let l = most_within rules rows n last s in
     behind_is rules rows n test last s
@@ -91,7 +95,8 @@ none_behind rules rows n test last s e =
     (λ j x y. selected_shown rules rows n test j (none_between (is_shown rules rows n) (most_of last) (length rows) l (sym e ∙ given_is rules rows n last) j x (omega (arith, l, y))))
 
 -- the one that was given last is among those that were given
-last_before : (rules : List StripRule) (rows : List Row) (n : ℕ) (last : Option ℕ) (k : ℕ) → StandsTo rules rows n last → shown_below rules rows n k ≡ shown_below rules rows n (most_of last) → most_of last ≤ k
+last_before : (rules : List StripRule) (rows : List Row) (n : ℕ) (last : Option ℕ) (k : ℕ) → StandsTo rules rows n last
+    → shown_below rules rows n k ≡ shown_below rules rows n (most_of last) → most_of last ≤ k
 last_before rules rows n None k s e = omega arith
 last_before rules rows n (Some l) k s e =
     let m = member_if_passes (is_shown rules rows n) 0 (suc l) l (omega arith) (omega arith) s.1 in
@@ -99,15 +104,18 @@ last_before rules rows n (Some l) k s e =
     let h = r.1 in omega (arith, h)
 
 -- one more was given
-up_to : (rules : List StripRule) (rows : List Row) (n : ℕ) (last : Option ℕ) (k : ℕ) → StandsTo rules rows n (Some k) → given_to rules rows n (Some k) ≡ given_to rules rows n last ++ k ∷ [] → shown_below rules rows n k ≡ shown_below rules rows n (most_of last)
+up_to : (rules : List StripRule) (rows : List Row) (n : ℕ) (last : Option ℕ) (k : ℕ) → StandsTo rules rows n (Some k)
+    → given_to rules rows n (Some k) ≡ given_to rules rows n last ++ k ∷ [] → shown_below rules rows n k ≡ shown_below rules rows n (most_of last)
 up_to rules rows n last k t e =
     append_cancel_right (shown_below rules rows n k) (shown_below rules rows n (most_of last)) (k ∷ [])
     (sym (one_more (is_shown rules rows n) k t.1) ∙ e ∙ ap (λ xs. xs ++ k ∷ []) (given_is rules rows n last))
 
-pub given_more : (rules : List StripRule) (rows : List Row) (n : ℕ) (last : Option ℕ) (k : ℕ) → StandsTo rules rows n last → StandsTo rules rows n (Some k) → given_to rules rows n (Some k) ≡ given_to rules rows n last ++ k ∷ [] → most_of last < suc k
+pub given_more : (rules : List StripRule) (rows : List Row) (n : ℕ) (last : Option ℕ) (k : ℕ) → StandsTo rules rows n last → StandsTo rules rows n (Some k)
+    → given_to rules rows n (Some k) ≡ given_to rules rows n last ++ k ∷ [] → most_of last < suc k
 given_more rules rows n last k s t e = let l = last_before rules rows n last k s (up_to rules rows n last k t e) in omega (arith, l)
 
-pub next_behind : (rules : List StripRule) (rows : List Row) (n : ℕ) (test : Test) (last : Option ℕ) (k : ℕ) → StandsTo rules rows n last → StandsTo rules rows n (Some k) → given_to rules rows n (Some k) ≡ given_to rules rows n last ++ k ∷ []
+pub next_behind : (rules : List StripRule) (rows : List Row) (n : ℕ) (test : Test) (last : Option ℕ) (k : ℕ) → StandsTo rules rows n last → StandsTo rules rows n (Some k)
+    → given_to rules rows n (Some k) ≡ given_to rules rows n last ++ k ∷ []
     → behind_node last (kids rules rows n test) ≡ node_if (meets Element test (row_at rows k)) k (behind_node (Some k) (kids rules rows n test))
 next_behind rules rows n test last k s t e =
     let g : ℕ → Bool = is_selected rules rows n axis.Child test in

@@ -71,14 +71,16 @@ module _ (R : Reading) (values : List Value) (c : Context) where
   abbrev pub inside_at : List MeantStep → ℕ → ℕ → Stream
   inside_at steps i n = steps_items (drop (suc i) steps) n R values c
 
-  pub left_enter : (steps : List MeantStep) (levels : List Level) (n : ℕ) → length levels < length steps → left_of steps levels (Some n) R values c ≡ left_of steps (levels ++ fresh_level n ∷ []) None R values c
+  pub left_enter : (steps : List MeantStep) (levels : List Level) (n : ℕ) → length levels < length steps
+      → left_of steps levels (Some n) R values c ≡ left_of steps (levels ++ fresh_level n ∷ []) None R values c
   left_enter [] [] n h = absurd (omega arith)
   left_enter (step ∷ steps) [] n h = refl
   left_enter [] (level ∷ levels) n h = absurd (omega arith)
   left_enter (step ∷ steps) (level ∷ levels) n h =
       ap (λ s. then_stream s (level_left step (λ k. steps_items steps k R values c) level R values c)) (left_enter steps levels n (omega arith))
 
-  pub left_item : (steps : List MeantStep) (levels : List Level) (n : ℕ) → length levels ≡ length steps → left_of steps levels (Some n) R values c ≡ then_stream (all_of (n ∷ [])) (left_of steps levels None R values c)
+  pub left_item : (steps : List MeantStep) (levels : List Level) (n : ℕ) → length levels ≡ length steps
+      → left_of steps levels (Some n) R values c ≡ then_stream (all_of (n ∷ [])) (left_of steps levels None R values c)
   left_item [] [] n h = refl
   left_item (step ∷ steps) [] n h = absurd (omega arith)
   left_item [] (level ∷ levels) n h = absurd (omega arith)
@@ -87,7 +89,8 @@ module _ (R : Reading) (values : List Value) (c : Context) where
       ∙ then_assoc (all_of (n ∷ [])) (left_of steps levels None R values c) (level_left step (λ k. steps_items steps k R values c) level R values c)
 
   -- the innermost level comes to a child
-  pub left_goes_on : (steps : List MeantStep) (levels : List Level) (i : ℕ) (step : MeantStep) (level : Level) (x : Child) → suc i ≡ length levels → slice_get levels i ≡ Some level → slice_get steps i ≡ Some step
+  pub left_goes_on : (steps : List MeantStep) (levels : List Level) (i : ℕ) (step : MeantStep) (level : Level) (x : Child) → suc i ≡ length levels → slice_get levels i ≡ Some level
+      → slice_get steps i ≡ Some step
       → level_left step (inside_at steps i) level R values c ≡ child_left step (inside_at steps i) level x R values c
       → left_of steps levels None R values c ≡ left_of steps (levels_after i level x levels) (entered_by x) R values c
   left_goes_on steps [] i step level x h l s e = absurd (omega arith)
@@ -106,7 +109,8 @@ module _ (R : Reading) (values : List Value) (c : Context) where
       now : level_left first inside here R values c ≡ level_left step inside level R values c
       now = ap (λ l. level_left first inside l R values c) same_level ∙ ap (λ s. level_left s inside level R values c) same_step
 
-      one : (x : Child) → level_left step inside level R values c ≡ child_left step inside level x R values c → left_of (first ∷ steps) (here ∷ []) None R values c ≡ left_of (first ∷ steps) (levels_after zero level x (here ∷ [])) (entered_by x) R values c
+      one : (x : Child) → level_left step inside level R values c ≡ child_left step inside level x R values c
+          → left_of (first ∷ steps) (here ∷ []) None R values c ≡ left_of (first ∷ steps) (levels_after zero level x (here ∷ [])) (entered_by x) R values c
       one child.None e = now ∙ e
       one (child.Other n children) e = now ∙ e ∙ ap (λ s. level_left s inside (after_child level (child.Other n children)) R values c) (sym same_step)
       one (child.Tested n children tested) e = now ∙ e ∙ ap (λ s. child_left s inside level (child.Tested n children tested) R values c) (sym same_step)
@@ -144,4 +148,5 @@ module _ (R : Reading) (values : List Value) (c : Context) where
   left_first (first ∷ steps) (here ∷ next ∷ levels) (suc i) step level h l s =
       first_then (left_of steps (next ∷ levels) None R values c) (level_left first (λ k. steps_items steps k R values c) here R values c)
       ∙ ap (λ o. o >>= or_next (first_item (level_left first (λ k. steps_items steps k R values c) here R values c))) (left_first steps (next ∷ levels) i step level (omega arith) l s)
-      ∙ then_known (first_item (level_left step (inside_at steps i) level R values c)) (rest_first steps (next ∷ levels)) (or_next (first_item (level_left first (λ k. steps_items steps k R values c) here R values c)))
+      ∙ then_known (first_item (level_left step (inside_at steps i) level R values c)) (rest_first steps (next ∷ levels))
+      (or_next (first_item (level_left first (λ k. steps_items steps k R values c) here R values c)))

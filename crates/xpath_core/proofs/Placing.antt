@@ -58,7 +58,8 @@ levels_within at level child.None levels = long_taken levels at
 levels_within at level (child.Other n children) levels = long_set levels at (after_child level (child.Other n children))
 levels_within at level (child.Tested n children tested) levels = long_set levels at (after_child level (child.Tested n children tested))
 
-levels_stand : (rules : List StripRule) (steps : List Step) (at : ℕ) (level : Level) (x : Child) (levels : List Level) → Each (IsLevel rules steps) levels → IsChild rules steps level x → Each (IsLevel rules steps) (levels_after at level x levels)
+levels_stand : (rules : List StripRule) (steps : List Step) (at : ℕ) (level : Level) (x : Child) (levels : List Level) → Each (IsLevel rules steps) levels
+    → IsChild rules steps level x → Each (IsLevel rules steps) (levels_after at level x levels)
 levels_stand rules steps at level child.None levels a k = each_taken (IsLevel rules steps) levels at a
 levels_stand rules steps at level (child.Other n children) levels a k = each_set (IsLevel rules steps) levels at _ a k.level
 levels_stand rules steps at level (child.Tested n children tested) levels a k = each_set (IsLevel rules steps) levels at _ a k.level
@@ -69,7 +70,8 @@ child_entered rules steps level (child.Other n children) k = tt
 child_entered rules steps level (child.Tested n children tested) k = k.entered
 
 -- the innermost level came to a child
-pub place_goes_on : (rules : List StripRule) (steps : List Step) (parts : List StepExpr) (at : ℕ) (level : Level) (x : Child) (old new : Place) → IsPlace rules steps parts old → old.entering ≡ None → slice_get old.levels at ≡ Some level → IsChild rules steps level x → IsWentOn at x old new
+pub place_goes_on : (rules : List StripRule) (steps : List Step) (parts : List StepExpr) (at : ℕ) (level : Level) (x : Child) (old new : Place) → IsPlace rules steps parts old
+    → old.entering ≡ None → slice_get old.levels at ≡ Some level → IsChild rules steps level x → IsWentOn at x old new
     → IsPlace rules steps parts new
 place_goes_on rules steps parts at level x old new p n l k w = record {
   tests = w.tests ∙ p.tests;
@@ -78,7 +80,8 @@ place_goes_on rules steps parts at level x old new p n l k w = record {
   entering = subst (IsEntered rules steps) (sym (w.entering n)) (child_entered rules steps level x k);
 }
 
-pub left_moves_on : (lookups : Lookups) (rules : List StripRule) (steps : List Step) (parts : List StepExpr) (values : List Value) (c : Context) (at : ℕ) (part : StepExpr) (level : Level) (x : Child) (old new : Place) → old.entering ≡ None → suc at ≡ length old.levels → slice_get old.levels at ≡ Some level
+pub left_moves_on : (lookups : Lookups) (rules : List StripRule) (steps : List Step) (parts : List StepExpr) (values : List Value) (c : Context) (at : ℕ) (part : StepExpr)
+    (level : Level) (x : Child) (old new : Place) → old.entering ≡ None → suc at ≡ length old.levels → slice_get old.levels at ≡ Some level
     → slice_get parts at ≡ Some part → Follows lookups rules steps (meant_step part) level values c x → IsWentOn at x old new
     → (q : List Step) → Grows steps q → IsLawful q → left_at parts old (reading_by lookups rules q) values c ≡ left_at parts new (reading_by lookups rules q) values c
 left_moves_on lookups rules steps parts values c at part level x old new n h l s f w q g d =
@@ -89,7 +92,8 @@ left_moves_on lookups rules steps parts values c at part level x old new n h l s
     ∙ ap (λ o. left_of (map meant_step parts) new.levels o R values c) (sym (w.entering n))
 
 -- the children of a node that passed
-pub place_enters : (rules : List StripRule) (steps : List Step) (parts : List StepExpr) (n : ℕ) (old new : Place) → IsPlace rules steps parts old → old.entering ≡ Some n → length old.levels < length parts → new ≡ record { tests = old.tests; levels = old.levels ++ fresh_level n ∷ []; entering = None }
+pub place_enters : (rules : List StripRule) (steps : List Step) (parts : List StepExpr) (n : ℕ) (old new : Place) → IsPlace rules steps parts old → old.entering ≡ Some n
+    → length old.levels < length parts → new ≡ record { tests = old.tests; levels = old.levels ++ fresh_level n ∷ []; entering = None }
     → IsPlace rules steps parts new
 place_enters rules steps parts n old new p e l w =
     let there = subst (IsEntered rules steps) e p.entering in
@@ -100,7 +104,8 @@ place_enters rules steps parts n old new p e l w =
       entering = tt;
     })
 
-pub left_enters : (parts : List StepExpr) (n : ℕ) (old new : Place) (R : Reading) (values : List Value) (c : Context) → old.entering ≡ Some n → length old.levels < length parts → new ≡ record { tests = old.tests; levels = old.levels ++ fresh_level n ∷ []; entering = None }
+pub left_enters : (parts : List StepExpr) (n : ℕ) (old new : Place) (R : Reading) (values : List Value) (c : Context) → old.entering ≡ Some n → length old.levels < length parts
+    → new ≡ record { tests = old.tests; levels = old.levels ++ fresh_level n ∷ []; entering = None }
     → left_at parts old R values c ≡ left_at parts new R values c
 left_enters parts n old new R values c e l w =
     ap (λ o. left_of (map meant_step parts) old.levels o R values c) e

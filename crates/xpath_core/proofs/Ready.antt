@@ -37,7 +37,8 @@ pub ready_moves : {M : Type 0} {s t : Seen M} {fits : Fits} {values : List Value
 ready_moves {s = s} {t} {values = values} {c} on m r = record { stands = stands_on on m r.stands; values = values_on s t values m r.values; context = context_on s t c m r.context }
 
 -- at another node
-pub ready_at : {M : Type 0} {s : Seen M} {fits : Fits} {values : List Value} {c : Context} (size : Size) (position n : ℕ) → IsThere s.rules s.steps n → IsReady s fits values c → IsReady s fits values (at_node c size position n)
+pub ready_at : {M : Type 0} {s : Seen M} {fits : Fits} {values : List Value} {c : Context} (size : Size) (position n : ℕ) → IsThere s.rules s.steps n → IsReady s fits values c
+    → IsReady s fits values (at_node c size position n)
 ready_at size position n h r = record { stands = r.stands; values = r.values; context = record { node = h; current = r.context.current } }
 
 -- what is told of what is known
@@ -48,13 +49,16 @@ told_there {t = t} {values = values} {c} {lookups} V means sound r a =
     (sound _ values c (record { reading = reading_told t.rules lookups.keys lookups.id t.steps; bound = r.values; context = r.context }))
 
 -- what a call says, by what the source was made for at first
-pub told_by : {M N A : Type 0} {s t : Seen M} {made now : Made N} {means : Reading → Outcome A} {result : Result A EvalStop} → now ≡ made → Says now.lookups means s t result → Says made.lookups means s t result
+pub told_by : {M N A : Type 0} {s t : Seen M} {made now : Made N} {means : Reading → Outcome A} {result : Result A EvalStop} → now ≡ made → Says now.lookups means s t result
+    → Says made.lookups means s t result
 told_by {s = s} {t} {means = means} {result} e a = subst (λ (m : Made _). Says m.lookups means s t result) e a
 
 -- in the context that was made
-pub told_at : {M A : Type 0} {lookups : Lookups} {s t : Seen M} {values : List Value} {c at : Context} {result : Result A EvalStop} (means : Meaning (Outcome A)) → at ≡ c → Says lookups (λ R. means R values at) s t result → Says lookups (λ R. means R values c) s t result
+pub told_at : {M A : Type 0} {lookups : Lookups} {s t : Seen M} {values : List Value} {c at : Context} {result : Result A EvalStop} (means : Meaning (Outcome A)) → at ≡ c
+    → Says lookups (λ R. means R values at) s t result → Says lookups (λ R. means R values c) s t result
 told_at {lookups = lookups} {s} {t} {values} {result = result} means h a = subst (λ x. Says lookups (λ R. means R values x) s t result) h a
 
 -- of the list that was given
-pub told_of : {M A X : Type 0} {lookups : Lookups} {s t : Seen M} {x y : X} {result : Result A EvalStop} (means : X → Reading → Outcome A) → x ≡ y → Says lookups (means x) s t result → Says lookups (means y) s t result
+pub told_of : {M A X : Type 0} {lookups : Lookups} {s t : Seen M} {x y : X} {result : Result A EvalStop} (means : X → Reading → Outcome A) → x ≡ y
+    → Says lookups (means x) s t result → Says lookups (means y) s t result
 told_of {lookups = lookups} {s} {t} {result = result} means h a = subst (λ z. Says lookups (means z) s t result) h a

@@ -1,5 +1,5 @@
 -- What calls on operands make the calls above them say.
-use Rattle.std.proofs.Common.{◌≡◌, refl, sym, ap, ◌∙◌, subst, ℕ, List, Result, Ok, Err, map}
+use Rattle.std.proofs.Common.{◌≡◌, refl, sym, ap, ℕ, List, Result, Ok, Err}
 use Rattle.doc_model.specs.View.{Seen, Moves}
 use Rattle.key_sources.specs.Going.{Lookups, Fits, Says}
 use Rattle.key_sources.proofs.Saying.{Keeps, says_same, says_then, says_stops}
@@ -17,7 +17,7 @@ use Rattle.xpath_laws.specs.Sound.{IsThere, IsOpen, IsValue}
 use Rattle.xpath_meaning.specs.declared.context.Context.{Context}
 use Rattle.xpath_meaning.specs.declared.stop.EvalStop.{EvalStop}
 use Rattle.xpath_meaning.specs.Evaluation.{meant}
-use Rattle.xpath_meaning.specs.Meanings.{Meant, plain}
+use Rattle.xpath_meaning.specs.Meanings.{plain}
 use Rattle.doc_model.specs.Answers.{Known}
 use Rattle.xpath_meaning.specs.Operators.{binary}
 use Rattle.xpath_operations.proofs.Operating.{binary_is}
@@ -63,7 +63,8 @@ says_no_operation op l r values c e a =
 
 -- ---- an operator on a value
 
-pub says_on_value : {M : Type 0} {lookups : Lookups} {s t u : Seen M} {k : OperandKind} {x : Operand} {result : Result Value EvalStop} (op : Op) (v : Value) (r : Expr) (values : List Value) (c : Context)
+pub says_on_value : {M : Type 0} {lookups : Lookups} {s t u : Seen M} {k : OperandKind} {x : Operand} {result : Result Value EvalStop} (op : Op) (v : Value) (r : Expr)
+    (values : List Value) (c : Context)
     → k ≡ kind_of op → Moves s t → Says lookups (λ R. operand_by k R v) s t (Ok x) → Moves t u
     → Says lookups (λ R. applied op x (meant r) R values c) t u result → Says lookups (λ R. on_value op v r R values c) s u result
 says_on_value op v r values c e m a n b =
@@ -80,7 +81,8 @@ says_not_on_value op v r values c e a =
 pub operand_held : {M : Type 0} {lookups : Lookups} {s t : Seen M} {fits : Fits} {values : List Value} {c : Context} {x : Operand} (k : OperandKind) (e : Expr) → IsReady t fits values c
     → Says lookups (λ R. operand_as k (meant e) R values c) s t (Ok x) → IsHeld t.steps x
 operand_held {t = t} {x = x} k e r a =
-    held_joined t.rules t.steps x (told_there (Held (IsThere t.rules t.steps)) (operand_as k (meant e)) (operand_sound (IsThere t.rules t.steps) (IsOpen t.steps) k (meant e) (expr_sound (IsThere t.rules t.steps) (IsOpen t.steps) e)) r a)
+    held_joined t.rules t.steps x (told_there (Held (IsThere t.rules t.steps)) (operand_as k (meant e))
+    (operand_sound (IsThere t.rules t.steps) (IsOpen t.steps) k (meant e) (expr_sound (IsThere t.rules t.steps) (IsOpen t.steps) e)) r a)
 
 pub value_told : {M : Type 0} {lookups : Lookups} {s t : Seen M} {fits : Fits} {values : List Value} {c : Context} {v : Value} (e : Expr) → IsReady t fits values c
     → Says lookups (λ R. (meant e).value R values c) s t (Ok v) → IsValue (IsThere t.rules t.steps) v
@@ -93,7 +95,8 @@ operation_told {t = t} op l r h a =
     let O : ℕ → Type 0 = IsOpen t.steps in
     told_there (IsValue T) (binary op (meant l) (meant r)) (binary_sound T O op (meant l) (meant r) (expr_sound T O l) (expr_sound T O r)) h a
 
-pub on_value_told : {M : Type 0} {lookups : Lookups} {s t : Seen M} {fits : Fits} {values : List Value} {c : Context} {v : Value} (op : Op) (w : Value) (r : Expr) → IsReady t fits values c → IsValue (IsThere t.rules t.steps) w
+pub on_value_told : {M : Type 0} {lookups : Lookups} {s t : Seen M} {fits : Fits} {values : List Value} {c : Context} {v : Value} (op : Op) (w : Value) (r : Expr)
+    → IsReady t fits values c → IsValue (IsThere t.rules t.steps) w
     → Says lookups (λ R. on_value op w r R values c) s t (Ok v) → IsValue (IsThere t.rules t.steps) v
 on_value_told {t = t} op w r h i a =
     let T : ℕ → Type 0 = IsThere t.rules t.steps in

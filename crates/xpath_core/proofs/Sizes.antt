@@ -1,5 +1,5 @@
 -- Parts are smaller than the whole.
-use Rattle.std.proofs.Common.{rules, ◌≡◌, sym, ap, ◌∙◌, subst, ◌<◌, ◌≤◌, ℕ, zero, suc, List, [], ◌∷◌, length, get_or, Option, arith}
+use Rattle.std.proofs.Common.{rules, ◌≡◌, sym, ap, ◌∙◌, ◌<◌, ◌≤◌, ℕ, zero, suc, List, [], ◌∷◌, length, get_or, Option, arith}
 use Rattle.xpath_chains.specs.Chains.{chained}
 use Rattle.xpath_chains.specs.declared.chain.Applied.{Applied}
 use Rattle.xpath_syntax.proofs.expression.Expr.TheLaws.{the_size}
@@ -43,7 +43,8 @@ innermost_left op o l r a b above e = let p = left_within op l r in let q = firs
 pub innermost_right : (op o : Op) (l r a b : Expr) (above : List Applied) → chained (expr.Binary op l r) above ≡ expr.Binary o a b → the_size r < the_size (expr.Binary o a b)
 innermost_right op o l r a b above e = let p = right_within op l r in let q = first_within (expr.Binary op l r) above in let s = ap the_size e in omega (arith, p, q, s)
 
-pub later_right : (op o : Op) (l r a b : Expr) (above items : List Applied) (i : ℕ) (x : Applied) → chained (expr.Binary op l r) above ≡ expr.Binary o a b → items ≡ above → i < length items → x ≡ get_or items i x
+pub later_right : (op o : Op) (l r a b : Expr) (above items : List Applied) (i : ℕ) (x : Applied) → chained (expr.Binary op l r) above ≡ expr.Binary o a b → items ≡ above
+    → i < length items → x ≡ get_or items i x
     → the_size x.right.now < the_size (expr.Binary o a b)
 later_right op o l r a b above items i x e same h is =
     let p = next_within (expr.Binary op l r) items i x h is in let q = ap (λ xs. the_size (chained (expr.Binary op l r) xs)) same in let s = ap the_size e in omega (arith, p, q, s)

@@ -51,7 +51,8 @@ use Rattle.xpath_values.specs.declared.value.Value.{Value}
 -- ---- what calls say, where other words hold at each step of the call and later
 
 pub says_steps : {M A : Type 0} {lookups : Lookups} {means other : Reading → Outcome A} {s t : Seen M} (result : Result A EvalStop) → Moves s t
-    → ((steps : List Step) → Grows s.steps steps → IsLawful steps → other (reading_by lookups t.rules steps) ≡ means (reading_by lookups t.rules steps)) → Says lookups means s t result → Says lookups other s t result
+    → ((steps : List Step) → Grows s.steps steps → IsLawful steps → other (reading_by lookups t.rules steps) ≡ means (reading_by lookups t.rules steps))
+    → Says lookups means s t result → Says lookups other s t result
 says_steps (Ok x) m h a = record { answers = h _ m.grows m.seen.lawful ∙ a.answers }
 says_steps (Err (Fault fault)) m h a = record { answers = h _ m.grows m.seen.lawful ∙ a.answers }
 says_steps {t = t} (Err (NotYet row)) m h a =
@@ -59,7 +60,8 @@ says_steps {t = t} (Err (NotYet row)) m h a =
 says_steps (Err Memory) m h a = record { answers = tt }
 
 -- what is known stays known
-pub known_on : {M A : Type 0} {lookups : Lookups} {means : Reading → Outcome A} {s t : Seen M} {x : A} → Keeps means → Says lookups means s t (Ok x) → (q : List Step) → Grows t.steps q → IsLawful q → means (reading_by lookups t.rules q) ≡ answer.Known x
+pub known_on : {M A : Type 0} {lookups : Lookups} {means : Reading → Outcome A} {s t : Seen M} {x : A} → Keeps means → Says lookups means s t (Ok x) → (q : List Step)
+    → Grows t.steps q → IsLawful q → means (reading_by lookups t.rules q) ≡ answer.Known x
 known_on {lookups = lookups} {means} {t = t} {x} k a q g l = known_later (λ p. means (reading_by lookups t.rules p)) t.steps q x (lasts means k lookups t.rules) g l a.answers
 
 -- ---- levels and places stand later
@@ -96,11 +98,13 @@ place_on s t parts place m i = subst (λ rules. IsPlace rules t.steps parts plac
 
 -- ---- children that a reading tells
 
-pub children_are : (lookups : Lookups) (rules : List StripRule) (steps : List Step) (test : Test) (n : ℕ) (o : Bool) → IsJoined steps n → is_open steps n ≡ o → (reading_by lookups rules steps).children test n ≡ record { items = kids rules (rows_of steps) n test; ending = cond o (Cut n) Whole }
+pub children_are : (lookups : Lookups) (rules : List StripRule) (steps : List Step) (test : Test) (n : ℕ) (o : Bool) → IsJoined steps n → is_open steps n ≡ o
+    → (reading_by lookups rules steps).children test n ≡ record { items = kids rules (rows_of steps) n test; ending = cond o (Cut n) Whole }
 unfolding reading_of
 children_are lookups rules steps test n o j e = children_there rules steps test n o j e
 
-items_are : (lookups : Lookups) (rules : List StripRule) (steps : List Step) (test : Test) (n : ℕ) → IsJoined steps n → ((reading_by lookups rules steps).children test n).items ≡ kids rules (rows_of steps) n test
+items_are : (lookups : Lookups) (rules : List StripRule) (steps : List Step) (test : Test) (n : ℕ) → IsJoined steps n
+    → ((reading_by lookups rules steps).children test n).items ≡ kids rules (rows_of steps) n test
 items_are lookups rules steps test n j = ap (λ (s : Stream). s.items) (children_are lookups rules steps test n (is_open steps n) j refl)
 
 -- a stream of children gave one more
@@ -114,7 +118,8 @@ pub stream_of_level : {M : Type 0} (s : Seen M) (level : Level) → IsLevel s.ru
 stream_of_level s level l =
     (subst (IsJoined s.steps) (sym l.node) l.joined, subst (λ n. StandsTo s.rules (rows_of s.steps) n level.children.last) (sym l.node) l.stands)
 
-pub stepped : {M : Type 0} (s t : Seen M) (level : Level) (new : ChildStream) (k : ℕ) → Moves s t → IsLevel s.rules s.steps level → StreamIs s t level.children new (look.Node k) → Stepped t.rules t.steps level.node level.children.last k × (new.n ≡ level.node) × (new.last ≡ Some k)
+pub stepped : {M : Type 0} (s t : Seen M) (level : Level) (new : ChildStream) (k : ℕ) → Moves s t → IsLevel s.rules s.steps level → StreamIs s t level.children new (look.Node k)
+    → Stepped t.rules t.steps level.node level.children.last k × (new.n ≡ level.node) × (new.last ≡ Some k)
 stepped s t level new k m l i =
     let e : new.n ≡ level.node = i.1 ∙ l.node in
     let on = level_on s t level m l in
@@ -134,7 +139,8 @@ stepped_there rules steps n last k p = (p.now.0, (and_parts _ _ p.now.1).0)
 
 -- the children behind the last one, at every growth
 pub kid_behind : (lookups : Lookups) (rules : List StripRule) (p q : List Step) (n : ℕ) (test : Test) (last : Option ℕ) (k : ℕ) → Grows p q → Stepped rules p n last k
-    → behind_node last ((reading_by lookups rules q).children test n).items ≡ node_if (meets Element test (row_at (rows_of p) k)) k (behind_node (Some k) ((reading_by lookups rules q).children test n).items)
+    → behind_node last ((reading_by lookups rules q).children test n).items
+    ≡ node_if (meets Element test (row_at (rows_of p) k)) k (behind_node (Some k) ((reading_by lookups rules q).children test n).items)
 kid_behind lookups rules p q n test last k g h =
     let j = joined_grows p q n g h.joined in
     let same = items_are lookups rules q test n j in
@@ -158,7 +164,8 @@ at_other step inside level new R values c k b e l h =
 -- what lies behind a node that is tested
 abbrev pub behind_tested : MeantStep → (ℕ → Stream) → Level → Reading → List Value → Context → ℕ → items.Tested → Stream
 behind_tested step inside level R values c k t =
-    then_stream (if_passed t.passed (inside k)) (through step.predicates inside t.counts (behind_node (Some k) (R.children (test_of step.test) level.node).items) (R.children (test_of step.test) level.node).ending R values c)
+    then_stream (if_passed t.passed (inside k))
+    (through step.predicates inside t.counts (behind_node (Some k) (R.children (test_of step.test) level.node).items) (R.children (test_of step.test) level.node).ending R values c)
 
 pub at_tested : (step : MeantStep) (inside : ℕ → Stream) (level : Level) (R : Reading) (values : List Value) (c : Context) (k : ℕ) (b : Bool) → b ≡ true
     → behind_node level.children.last (R.children (test_of step.test) level.node).items ≡ node_if b k (behind_node (Some k) (R.children (test_of step.test) level.node).items)
@@ -169,8 +176,10 @@ at_tested step inside level R values c k b e h =
 pub at_passed : (step : MeantStep) (inside : ℕ → Stream) (level : Level) (new : ChildStream) (t : Tested) (R : Reading) (values : List Value) (c : Context) (k : ℕ) → new.last ≡ Some k
     → behind_tested step inside level R values c k (record { counts = t.counts; passed = t.passed }) ≡ child_left step inside level (child.Tested k new t) R values c
 at_passed step inside level new t R values c k l =
-    ap (λ s. then_stream s (through step.predicates inside t.counts (behind_node (Some k) (R.children (test_of step.test) level.node).items) (R.children (test_of step.test) level.node).ending R values c)) (if_entered t.passed inside k)
-    ∙ ap (λ o. then_stream (entered inside (cond t.passed (Some k) None)) (through step.predicates inside t.counts (behind_node o (R.children (test_of step.test) level.node).items) (R.children (test_of step.test) level.node).ending R values c)) (sym l)
+    ap (λ s. then_stream s (through step.predicates inside t.counts (behind_node (Some k) (R.children (test_of step.test) level.node).items)
+    (R.children (test_of step.test) level.node).ending R values c)) (if_entered t.passed inside k)
+    ∙ ap (λ o. then_stream (entered inside (cond t.passed (Some k) None))
+    (through step.predicates inside t.counts (behind_node o (R.children (test_of step.test) level.node).items) (R.children (test_of step.test) level.node).ending R values c)) (sym l)
 
 -- ---- counts
 
@@ -188,8 +197,10 @@ later_most : (bound : ℕ) (counts : List ℕ) → Each (λ n. n ≤ bound) coun
 later_most bound [] a = tt
 later_most bound (n ∷ ns) a = a.1
 
-pub counts_more : (predicates : List Meant) (counts : List ℕ) (n : ℕ) (R : Reading) (values : List Value) (c : Context) (t : items.Tested) (bound : ℕ) → tested predicates counts n R values c ≡ answer.Known t → Each (λ k. k ≤ bound) counts → Each (λ k. k ≤ suc bound) t.counts
-counts_more [] counts n R values c t bound e a = subst (λ (u : items.Tested). Each (λ k. k ≤ suc bound) u.counts) (known_same (record { counts = counts; passed = true }) t e) (most_counts bound counts a)
+pub counts_more : (predicates : List Meant) (counts : List ℕ) (n : ℕ) (R : Reading) (values : List Value) (c : Context) (t : items.Tested) (bound : ℕ)
+    → tested predicates counts n R values c ≡ answer.Known t → Each (λ k. k ≤ bound) counts → Each (λ k. k ≤ suc bound) t.counts
+counts_more [] counts n R values c t bound e a =
+    subst (λ (u : items.Tested). Each (λ k. k ≤ suc bound) u.counts) (known_same (record { counts = counts; passed = true }) t e) (most_counts bound counts a)
 counts_more (predicate ∷ predicates) counts n R values c t bound e a =
     at (holds_at predicate R values (at_node c _ (suc (first_count counts)) n)) (tested predicates (later_counts counts) n R values c)
     (λ u f. counts_more predicates (later_counts counts) n R values c u bound f (later_most bound counts a)) e
@@ -197,12 +208,14 @@ counts_more (predicate ∷ predicates) counts n R values c t bound e a =
     one : suc (first_count counts) ≤ suc bound
     one = let l = first_most bound counts a in omega (arith, l)
 
-    passed : (rest : Outcome items.Tested) → ((u : items.Tested) → rest ≡ answer.Known u → Each (λ k. k ≤ suc bound) u.counts) → tested_on true (suc (first_count counts)) (later_counts counts) rest ≡ answer.Known t → Each (λ k. k ≤ suc bound) t.counts
+    passed : (rest : Outcome items.Tested) → ((u : items.Tested) → rest ≡ answer.Known u → Each (λ k. k ≤ suc bound) u.counts)
+        → tested_on true (suc (first_count counts)) (later_counts counts) rest ≡ answer.Known t → Each (λ k. k ≤ suc bound) t.counts
     passed (answer.Known u) h e = subst (λ (w : items.Tested). Each (λ k. k ≤ suc bound) w.counts) (known_same _ t e) (one, h u refl)
     passed (answer.Fault f) h e = absurd (let no : ◌≡◌ {A = Outcome items.Tested} (answer.Fault f) (answer.Known t) = e in cc)
     passed (answer.Open m) h e = absurd (let no : ◌≡◌ {A = Outcome items.Tested} (answer.Open m) (answer.Known t) = e in cc)
 
-    at : (here : Outcome Bool) (rest : Outcome items.Tested) → ((u : items.Tested) → rest ≡ answer.Known u → Each (λ k. k ≤ suc bound) u.counts) → (here >>= λ b. tested_on b (suc (first_count counts)) (later_counts counts) rest) ≡ answer.Known t → Each (λ k. k ≤ suc bound) t.counts
+    at : (here : Outcome Bool) (rest : Outcome items.Tested) → ((u : items.Tested) → rest ≡ answer.Known u → Each (λ k. k ≤ suc bound) u.counts)
+        → (here >>= λ b. tested_on b (suc (first_count counts)) (later_counts counts) rest) ≡ answer.Known t → Each (λ k. k ≤ suc bound) t.counts
     at (answer.Known true) rest h e = passed rest h e
     at (answer.Known false) rest h e = subst (λ (w : items.Tested). Each (λ k. k ≤ suc bound) w.counts) (known_same _ t e) (one, most_counts bound (later_counts counts) (later_most bound counts a))
     at (answer.Fault f) rest h e = absurd (let no : ◌≡◌ {A = Outcome items.Tested} (answer.Fault f) (answer.Known t) = e in cc)

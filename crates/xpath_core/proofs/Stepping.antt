@@ -1,5 +1,6 @@
 -- One turn of each loop over steps, nodes and predicates, and its end.
-use Rattle.std.proofs.Common.{◌≡◌, refl, sym, ap, ◌∙◌, ℕ, zero, suc, ◌+◌, ◌^◌, ◌<◌, ◌≤◌, List, [], ◌∷◌, ◌++◌, length, get_or, drop, map, Bool, true, false, append_assoc, append-nil, add-one, arith, Result, Ok, Err}
+use Rattle.std.proofs.Common.{◌≡◌, refl, sym, ap, ◌∙◌, ℕ, zero, suc, ◌+◌, ◌^◌, ◌<◌, ◌≤◌, List, [], ◌∷◌, ◌++◌, length, get_or, drop, map, Bool, true}
+use Rattle.std.proofs.Common.{false, append_assoc, append-nil, add-one, arith, Result, Ok, Err}
 use Rattle.std.specs.Prelude.{IsErrAnd}
 use Rattle.doc_model.specs.Answers.{Known, Fault, Open}
 use Rattle.doc_model.specs.View.{Seen, Moves}
@@ -88,7 +89,8 @@ filter_ends es i nodes R values c h = ap (λ left. filtered (map meant left) nod
 abbrev pub finding : (ℕ → Outcome (List ℕ)) → List ℕ → List ℕ → Outcome (List ℕ)
 finding f from all = each_of f from >>= λ lists. Known (document_order (all ++ joined lists))
 
-finds_one : (a : Outcome (List ℕ)) (o : Outcome (List (List ℕ))) (all : List ℕ) → ((a >>= λ y. o >>= λ ys. Known (y ∷ ys)) >>= λ lists. Known (document_order (all ++ joined lists))) ≡ (a >>= λ y. o >>= λ lists. Known (document_order ((all ++ y) ++ joined lists)))
+finds_one : (a : Outcome (List ℕ)) (o : Outcome (List (List ℕ))) (all : List ℕ)
+    → ((a >>= λ y. o >>= λ ys. Known (y ∷ ys)) >>= λ lists. Known (document_order (all ++ joined lists))) ≡ (a >>= λ y. o >>= λ lists. Known (document_order ((all ++ y) ++ joined lists)))
 finds_one (Known y) (Known ys) all = ap (λ ns. Known (document_order ns)) (sym (append_assoc all y (joined ys)))
 finds_one (Known y) (Fault f) all = refl
 finds_one (Known y) (Open m) all = refl
@@ -105,17 +107,20 @@ left_by part found R values c = filtered (map meant (out-StepExpr part).predicat
 abbrev pub one_step : StepExpr → List Value → Context → Reading → ℕ → Outcome (List ℕ)
 one_step part values c R n = found_on part R n >>= λ found. left_by part found R values c
 
-pub step_starts : (part : StepExpr) (from none : List ℕ) (R : Reading) (values : List Value) (c : Context) → none ≡ [] → step_nodes (meant_step part) from R values c ≡ finding (one_step part values c R) (drop 0 from) none
+pub step_starts : (part : StepExpr) (from none : List ℕ) (R : Reading) (values : List Value) (c : Context) → none ≡ []
+    → step_nodes (meant_step part) from R values c ≡ finding (one_step part values c R) (drop 0 from) none
 step_starts part from none R values c e = ap (λ step. step_nodes step from R values c) (meant_step_is part) ∙ ap (finding (one_step part values c R) from) (sym e)
 
 pub step_turns : (part : StepExpr) (from : List ℕ) (i : ℕ) (all : List ℕ) (R : Reading) (values : List Value) (c : Context) → i < length from
-    → finding (one_step part values c R) (drop i from) all ≡ (found_on part R (get_or from i 0) >>= λ found. left_by part found R values c >>= λ left. finding (one_step part values c R) (drop (i + 1) from) (all ++ left))
+    → finding (one_step part values c R) (drop i from) all
+    ≡ (found_on part R (get_or from i 0) >>= λ found. left_by part found R values c >>= λ left. finding (one_step part values c R) (drop (i + 1) from) (all ++ left))
 step_turns part from i all R values c h =
     ap (λ left. finding (one_step part values c R) left all) (rest_of from i 0 h)
     ∙ finds_one (one_step part values c R (get_or from i 0)) (each_of (one_step part values c R) (drop (i + 1) from)) all
     ∙ then_then (found_on part R (get_or from i 0)) (λ found. left_by part found R values c) (λ y. finding (one_step part values c R) (drop (i + 1) from) (all ++ y))
 
-pub step_ends : (part : StepExpr) (from : List ℕ) (i : ℕ) (all : List ℕ) (R : Reading) (values : List Value) (c : Context) → length from ≤ i → finding (one_step part values c R) (drop i from) all ≡ Known (document_order all)
+pub step_ends : (part : StepExpr) (from : List ℕ) (i : ℕ) (all : List ℕ) (R : Reading) (values : List Value) (c : Context) → length from ≤ i
+    → finding (one_step part values c R) (drop i from) all ≡ Known (document_order all)
 step_ends part from i all R values c h = ap (λ left. finding (one_step part values c R) left all) (no_rest from i h) ∙ ap (λ ns. Known (document_order ns)) (append-nil all)
 
 -- ---- steps
@@ -124,7 +129,8 @@ pub steps_turn : (parts : List StepExpr) (i : ℕ) (part : StepExpr) (nodes : Li
     → steps_nodes (map meant_step (drop i parts)) nodes R values c ≡ (step_nodes (meant_step part) nodes R values c >>= λ found. steps_nodes (map meant_step (drop (i + 1) parts)) found R values c)
 steps_turn parts i part nodes R values c h e = ap (λ left. steps_nodes (map meant_step left) nodes R values c) (left_with parts i part h e)
 
-pub steps_end : (parts : List StepExpr) (i : ℕ) (nodes : List ℕ) (R : Reading) (values : List Value) (c : Context) → length parts ≤ i → steps_nodes (map meant_step (drop i parts)) nodes R values c ≡ Known nodes
+pub steps_end : (parts : List StepExpr) (i : ℕ) (nodes : List ℕ) (R : Reading) (values : List Value) (c : Context) → length parts ≤ i
+    → steps_nodes (map meant_step (drop i parts)) nodes R values c ≡ Known nodes
 steps_end parts i nodes R values c h = ap (λ left. steps_nodes (map meant_step left) nodes R values c) (no_rest parts i h)
 
 -- ---- a node tested by predicates
@@ -138,7 +144,8 @@ tests_again (Known t) none e = ap (λ n. Known (record { counts = n ++ t.counts;
 tests_again (Fault f) none e = refl
 tests_again (Open m) none e = refl
 
-pub test_starts : (es : List Expr) (counts : List ℕ) (n : ℕ) (none : List ℕ) (R : Reading) (values : List Value) (c : Context) → none ≡ [] → tested (map meant es) counts n R values c ≡ testing (drop 0 es) (drop 0 counts) n none R values c
+pub test_starts : (es : List Expr) (counts : List ℕ) (n : ℕ) (none : List ℕ) (R : Reading) (values : List Value) (c : Context) → none ≡ []
+    → tested (map meant es) counts n R values c ≡ testing (drop 0 es) (drop 0 counts) n none R values c
 test_starts es counts n none R values c e = tests_again (tested (map meant es) counts n R values c) none e
 
 -- behind a predicate that holds, and where it does not
@@ -146,7 +153,8 @@ abbrev pub on_test : Bool → Outcome items.Tested → ℕ → List ℕ → List
 on_test true rest position counts after = rest >>= λ t. Known (record { counts = (after ++ position ∷ []) ++ t.counts; passed = t.passed })
 on_test false rest position counts after = Known (record { counts = (after ++ position ∷ []) ++ counts; passed = false })
 
-test_on : (here : Bool) (rest : Outcome items.Tested) (position : ℕ) (counts after : List ℕ) → (tested_on here position counts rest >>= λ t. Known (record { counts = after ++ t.counts; passed = t.passed })) ≡ on_test here rest position counts after
+test_on : (here : Bool) (rest : Outcome items.Tested) (position : ℕ) (counts after : List ℕ)
+    → (tested_on here position counts rest >>= λ t. Known (record { counts = after ++ t.counts; passed = t.passed })) ≡ on_test here rest position counts after
 test_on true (Known t) position counts after = ap (λ ns. Known (record { counts = ns; passed = t.passed })) (sym (append_assoc after (position ∷ []) t.counts))
 test_on true (Fault f) position counts after = refl
 test_on true (Open m) position counts after = refl
@@ -169,13 +177,17 @@ later_drop counts i = by counts i ∙ ap (λ k. drop k counts) (sym (add-one i))
 
 pub test_turns : (es : List Expr) (i : ℕ) (e : Expr) (counts : List ℕ) (n : ℕ) (after : List ℕ) (R : Reading) (values : List Value) (c : Context) → i < length es → e ≡ get_or es i e
     → testing (drop i es) (drop i counts) n after R values c
-    ≡ (holds_at (meant e) R values (at_node c size.Unasked (suc (first_count (drop i counts))) n) >>= λ here. on_test here (tested (map meant (drop (i + 1) es)) (drop (i + 1) counts) n R values c) (suc (first_count (drop i counts))) (drop (i + 1) counts) after)
+    ≡ (holds_at (meant e) R values (at_node c size.Unasked (suc (first_count (drop i counts))) n) >>= λ here. on_test here
+    (tested (map meant (drop (i + 1) es)) (drop (i + 1) counts) n R values c) (suc (first_count (drop i counts))) (drop (i + 1) counts) after)
 test_turns es i e counts n after R values c h is =
     ap (λ left. testing left (drop i counts) n after R values c) (left_with es i e h is)
-    ∙ tests_one (holds_at (meant e) R values (at_node c size.Unasked (suc (first_count (drop i counts))) n)) (tested (map meant (drop (i + 1) es)) (later_counts (drop i counts)) n R values c) (suc (first_count (drop i counts))) (later_counts (drop i counts)) after
-    ∙ ap (λ later. holds_at (meant e) R values (at_node c size.Unasked (suc (first_count (drop i counts))) n) >>= λ here. on_test here (tested (map meant (drop (i + 1) es)) later n R values c) (suc (first_count (drop i counts))) later after) (later_drop counts i)
+    ∙ tests_one (holds_at (meant e) R values (at_node c size.Unasked (suc (first_count (drop i counts))) n))
+    (tested (map meant (drop (i + 1) es)) (later_counts (drop i counts)) n R values c) (suc (first_count (drop i counts))) (later_counts (drop i counts)) after
+    ∙ ap (λ later. holds_at (meant e) R values (at_node c size.Unasked (suc (first_count (drop i counts))) n) >>= λ here. on_test here
+    (tested (map meant (drop (i + 1) es)) later n R values c) (suc (first_count (drop i counts))) later after) (later_drop counts i)
 
-pub test_ends : (es : List Expr) (i : ℕ) (counts : List ℕ) (n : ℕ) (after : List ℕ) (R : Reading) (values : List Value) (c : Context) → length es ≤ i → testing (drop i es) (drop i counts) n after R values c ≡ Known (record { counts = after ++ drop i counts; passed = true })
+pub test_ends : (es : List Expr) (i : ℕ) (counts : List ℕ) (n : ℕ) (after : List ℕ) (R : Reading) (values : List Value) (c : Context) → length es ≤ i
+    → testing (drop i es) (drop i counts) n after R values c ≡ Known (record { counts = after ++ drop i counts; passed = true })
 test_ends es i counts n after R values c h = ap (λ left. testing left (drop i counts) n after R values c) (no_rest es i h)
 
 -- ---- a node that was tested
@@ -183,7 +195,8 @@ test_ends es i counts n after R values c h = ap (λ left. testing left (drop i c
 abbrev pub finished_as : List ℕ → List ℕ → Bool → items.Tested
 finished_as after counts passed = record { counts = after ++ drop (length after) counts; passed = passed }
 
-gives_tested : (after counts : List ℕ) (passed : Bool) (r : Result Tested EvalStop) → Gives (Known (finished_with after counts passed)) r → Gives (Known (finished_as after counts passed)) (tested_in r)
+gives_tested : (after counts : List ℕ) (passed : Bool) (r : Result Tested EvalStop) → Gives (Known (finished_with after counts passed)) r
+    → Gives (Known (finished_as after counts passed)) (tested_in r)
 gives_tested after counts passed (Ok t) e =
     let same : finished_with after counts passed ≡ t = known_is (finished_with after counts passed) t e in
     ap (λ (x : Tested). Known (record { counts = x.counts; passed = x.passed })) same
@@ -194,7 +207,8 @@ gives_tested after counts passed (Err (stop.NotYet m)) e = absurd (let no : ◌�
 gives_tested after counts passed (Err (stop.Fault f)) e = absurd (let no : ◌≡◌ {A = Outcome Tested} (Known (finished_with after counts passed)) (Fault f) = e in cc)
 gives_tested after counts passed (Err stop.Memory) e = tt
 
-pub finishes : {M : Type 0} {lookups : Lookups} {s t : Seen M} {left whole : Reading → Outcome items.Tested} (after counts : List ℕ) (passed : Bool) (r : Result Tested EvalStop) → Leaves lookups s t left whole → Moves t t → ((R : Reading) → left R ≡ Known (finished_as after counts passed))
+pub finishes : {M : Type 0} {lookups : Lookups} {s t : Seen M} {left whole : Reading → Outcome items.Tested} (after counts : List ℕ) (passed : Bool) (r : Result Tested EvalStop)
+    → Leaves lookups s t left whole → Moves t t → ((R : Reading) → left R ≡ Known (finished_as after counts passed))
     → Gives (Known (finished_with after counts passed)) r → Says lookups whole s t (tested_in r)
 finishes {t = t} after counts passed r w m e g = w.rest t (tested_in r) m (says_same e (says_given (Known (finished_as after counts passed)) (tested_in r) m (gives_tested after counts passed r g)))
 

@@ -84,13 +84,15 @@ begun_place rules steps parts n place h b = record {
   entering = subst (IsEntered rules steps) (sym b.entering) h;
 }
 
-pub begun_left : (path : Path) (place : Place) (R : Reading) (values : List Value) (c : Context) → IsBegun (out-Path path).parts (start_of (meant_path path) c) place → path_items_of R path values c ≡ left_at (out-Path path).parts place R values c
+pub begun_left : (path : Path) (place : Place) (R : Reading) (values : List Value) (c : Context) → IsBegun (out-Path path).parts (start_of (meant_path path) c) place
+    → path_items_of R path values c ≡ left_at (out-Path path).parts place R values c
 begun_left path place R values c b =
     ap (λ (p : MeantPath). steps_items p.parts (start_of (meant_path path) c) R values c) (meant_path_is path)
     ∙ ap (λ n. left_of (map meant_step (out-Path path).parts) [] n R values c) (sym b.entering)
     ∙ ap (λ levels. left_of (map meant_step (out-Path path).parts) levels place.entering R values c) (sym b.levels)
 
-pub begins : (lookups : Lookups) (rules : List StripRule) (steps : List Step) (values : List Value) (path : Path) (c : Context) (stream : PathStream) → IsStarted path c stream → IsThere rules steps (start_of (meant_path path) c) → IsStreaming lookups rules steps values stream
+pub begins : (lookups : Lookups) (rules : List StripRule) (steps : List Step) (values : List Value) (path : Path) (c : Context) (stream : PathStream) → IsStarted path c stream
+    → IsThere rules steps (start_of (meant_path path) c) → IsStreaming lookups rules steps values stream
 begins lookups rules steps values path c stream s h = record {
   place = subst (λ (p : Path). IsPlace rules steps (out-Path p).parts stream.place) (sym s.path) (begun_place rules steps (out-Path path).parts _ stream.place h s.place);
   left = λ q g l.
@@ -103,7 +105,8 @@ begins lookups rules steps values path c stream s h = record {
       ∙ ap (λ (p : Path). left_at (out-Path p).parts stream.place R values stream.context) (sym s.path);
 }
 
-pub stays : (lookups : Lookups) (rules : List StripRule) (before later : List Step) (values : List Value) (stream : PathStream) → IsStreaming lookups rules before values stream → Grows before later → IsLawful later → IsStreaming lookups rules later values stream
+pub stays : (lookups : Lookups) (rules : List StripRule) (before later : List Step) (values : List Value) (stream : PathStream) → IsStreaming lookups rules before values stream
+    → Grows before later → IsLawful later → IsStreaming lookups rules later values stream
 stays lookups rules before later values stream s g l = record {
   place = place_later rules before later (out-Path stream.path.now).parts stream.place g s.place;
   left = λ q h k. s.left q (Grows-trans before later q g h) k;

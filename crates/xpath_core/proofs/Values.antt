@@ -29,7 +29,8 @@ use Rattle.xpath_values.specs.declared.value.Value.TheVariants.{Nodes}
 value_by : (e : Expr) (m : Meant) (R : Reading) (values : List Value) (c : Context) → meant e ≡ m → (meant e).value R values c ≡ m.value R values c
 value_by e m R values c h = ap (λ (m : Meant). m.value R values c) h
 
-pub binary_value : (e l r a b : Expr) (op : Op) (R : Reading) (values : List Value) (c : Context) → e ≡ expr.Binary op l r → a ≡ l → b ≡ r → (meant e).value R values c ≡ binary op (meant a) (meant b) R values c
+pub binary_value : (e l r a b : Expr) (op : Op) (R : Reading) (values : List Value) (c : Context) → e ≡ expr.Binary op l r → a ≡ l → b ≡ r
+    → (meant e).value R values c ≡ binary op (meant a) (meant b) R values c
 binary_value e l r a b op R values c is left right =
     value_by e _ R values c (ap meant is ∙ binary_means op l r) ∙ ap (λ x. binary op (meant x) (meant r) R values c) (sym left) ∙ ap (λ x. binary op (meant a) (meant x) R values c) (sym right)
 
@@ -38,7 +39,8 @@ less (Known n) = refl
 less (Fault f) = refl
 less (Open m) = refl
 
-pub minus_value : (e i a : Expr) (R : Reading) (values : List Value) (c : Context) → e ≡ expr.Minus i → a ≡ i → (meant e).value R values c ≡ (operand_as kind.Number (meant a) R values c >>= λ x. negated x)
+pub minus_value : (e i a : Expr) (R : Reading) (values : List Value) (c : Context) → e ≡ expr.Minus i → a ≡ i
+    → (meant e).value R values c ≡ (operand_as kind.Number (meant a) R values c >>= λ x. negated x)
 minus_value e i a R values c is same =
     value_by e _ R values c (ap meant is ∙ minus_means i) ∙ less (number_at (meant i) R values c) ∙ ap (λ x. operand_as kind.Number (meant x) R values c >>= negated) (sym same)
 
@@ -51,13 +53,16 @@ number_value e whole R values c is = value_by e _ R values c (ap meant is ∙ nu
 pub variable_value : (e : Expr) (name : NameRef) (R : Reading) (values : List Value) (c : Context) → e ≡ expr.Variable name → (meant e).value R values c ≡ Known (value_in values name.slot)
 variable_value e name R values c is = value_by e _ R values c (ap meant is ∙ variable_means name)
 
-pub call_value : (e : Expr) (name : NameRef) (args items : List Expr) (R : Reading) (values : List Value) (c : Context) → e ≡ expr.Call name args → items ≡ args → (meant e).value R values c ≡ call name (map meant items) R values c
+pub call_value : (e : Expr) (name : NameRef) (args items : List Expr) (R : Reading) (values : List Value) (c : Context) → e ≡ expr.Call name args → items ≡ args
+    → (meant e).value R values c ≡ call name (map meant items) R values c
 call_value e name args items R values c is same = value_by e _ R values c (ap meant is ∙ call_means name args) ∙ ap (λ xs. call name (map meant xs) R values c) (sym same)
 
-pub path_value : (e : Expr) (path : Path) (R : Reading) (values : List Value) (c : Context) → e ≡ expr.Path path → (meant e).value R values c ≡ (path_nodes (meant_path path) R values c >>= λ nodes. Known (Nodes nodes))
+pub path_value : (e : Expr) (path : Path) (R : Reading) (values : List Value) (c : Context) → e ≡ expr.Path path
+    → (meant e).value R values c ≡ (path_nodes (meant_path path) R values c >>= λ nodes. Known (Nodes nodes))
 path_value e path R values c is = value_by e _ R values c (ap meant is ∙ location_means path)
 
-pub filtered_value : (e primary a : Expr) (predicates items : List Expr) (tail : Option Path) (R : Reading) (values : List Value) (c : Context) → e ≡ expr.Filter primary predicates tail → a ≡ primary → items ≡ predicates
+pub filtered_value : (e primary a : Expr) (predicates items : List Expr) (tail : Option Path) (R : Reading) (values : List Value) (c : Context)
+    → e ≡ expr.Filter primary predicates tail → a ≡ primary → items ≡ predicates
     → (meant e).value R values c ≡ filter_value (meant a) (map meant items) (option_map meant_path tail) R values c
 filtered_value e primary a predicates items None R values c is same all =
     value_by e _ R values c (ap meant is ∙ filter_means primary predicates)

@@ -48,7 +48,8 @@ entered_weight : (left : ℕ) (entering : Option ℕ) → weight left [] enterin
 entered_weight left None = power_some (suc left)
 entered_weight left (Some n) = let p = power_some left in omega (arith, p)
 
-pub weight_goes_on : (rules : List StripRule) (steps : List Step) (left : ℕ) (levels : List Level) (i : ℕ) (level : Level) (x : Child) → IsLawful steps → suc i ≡ length levels → length levels ≤ left → slice_get levels i ≡ Some level → IsLevel rules steps level → IsChild rules steps level x
+pub weight_goes_on : (rules : List StripRule) (steps : List Step) (left : ℕ) (levels : List Level) (i : ℕ) (level : Level) (x : Child) → IsLawful steps → suc i ≡ length levels
+    → length levels ≤ left → slice_get levels i ≡ Some level → IsLevel rules steps level → IsChild rules steps level x
     → weight left (levels_after i level x levels) (entered_by x) < weight left levels None
 weight_goes_on rules steps left [] i level x w h f l s k = absurd (omega arith)
 weight_goes_on rules steps zero (here ∷ levels) i level x w h f l s k = absurd (omega arith)
@@ -68,13 +69,17 @@ weight_goes_on rules steps (suc left) (here ∷ []) zero level x w h f l s k = o
 
     one : (x : Child) → IsChild rules steps level x → weight (suc left) (levels_after zero level x (here ∷ [])) (entered_by x) < weight (suc left) (here ∷ []) None
     one child.None k = subst (λ z. 0 < room z * power (suc left) + 0) (sym same) (let r = less (room level) 0 (power (suc left)) 0 (omega (arith, few)) (power_some (suc left)) in omega (arith, r))
-    one (child.Other n children) k = subst (λ z. room (after_child level (child.Other n children)) * power (suc left) + 0 < room z * power (suc left) + 0) (sym same) (let r = moved _ None k in omega (arith, r))
-    one (child.Tested n children tested) k = subst (λ z. weight (suc left) (after_child level (child.Tested n children tested) ∷ []) (entered_by (child.Tested n children tested)) < room z * power (suc left) + 0) (sym same) (let r = moved _ (entered_by (child.Tested n children tested)) k in omega (arith, r))
+    one (child.Other n children) k =
+        subst (λ z. room (after_child level (child.Other n children)) * power (suc left) + 0 < room z * power (suc left) + 0) (sym same) (let r = moved _ None k in omega (arith, r))
+    one (child.Tested n children tested) k =
+        subst (λ z. weight (suc left) (after_child level (child.Tested n children tested) ∷ []) (entered_by (child.Tested n children tested)) < room z * power (suc left) + 0)
+        (sym same) (let r = moved _ (entered_by (child.Tested n children tested)) k in omega (arith, r))
 weight_goes_on rules steps (suc left) (here ∷ []) (suc i) level x w h f l s k = absurd (omega arith)
 weight_goes_on rules steps (suc left) (here ∷ next ∷ levels) zero level x w h f l s k = absurd (omega arith)
 weight_goes_on rules steps (suc left) (here ∷ next ∷ levels) (suc i) level x w h f l s k = outer x (weight_goes_on rules steps left (next ∷ levels) i level x w (omega arith) (omega arith) l s k)
   where
-    outer : (x : Child) → weight left (levels_after i level x (next ∷ levels)) (entered_by x) < weight left (next ∷ levels) None → weight (suc left) (levels_after (suc i) level x (here ∷ next ∷ levels)) (entered_by x) < weight (suc left) (here ∷ next ∷ levels) None
+    outer : (x : Child) → weight left (levels_after i level x (next ∷ levels)) (entered_by x) < weight left (next ∷ levels) None
+        → weight (suc left) (levels_after (suc i) level x (here ∷ next ∷ levels)) (entered_by x) < weight (suc left) (here ∷ next ∷ levels) None
     outer child.None r = omega (arith, r)
     outer (child.Other n children) r = omega (arith, r)
     outer (child.Tested n children tested) r = omega (arith, r)

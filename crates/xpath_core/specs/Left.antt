@@ -1,5 +1,6 @@
 -- What a stream of a location path still gives: the items behind those that it has given.
-use Rattle.std.specs.Prelude.{◌≡◌, ℕ, suc, ◌+◌, ◌<◌, ◌≤◌, nat_lt, Bool, if◌then◌else◌, List, [], ◌∷◌, ◌++◌, length, filter, take, drop, map, slice_get, slice_set, Option, Some, None, Result, Ok, Err, ⊤, ◌⊎◌}
+use Rattle.std.specs.Prelude.{◌≡◌, ℕ, suc, ◌+◌, ◌<◌, ◌≤◌, nat_lt, Bool, if◌then◌else◌, List, [], ◌∷◌, ◌++◌, length, filter, take, drop, map}
+use Rattle.std.specs.Prelude.{slice_get, slice_set, Option, Some, None, Result, Ok, Err, ⊤, ◌⊎◌}
 use Rattle.axis_walkers.specs.Streams.{StandsTo}
 use Rattle.doc_model.specs.declared.node_test.Test.{Test}
 use Rattle.doc_model.specs.declared.step.Step.{Step}
@@ -189,9 +190,20 @@ taken_in (Ok None) = []
 taken_in (Err stop) = []
 
 -- what was left is, on every lawful growth, the item that was taken, and then what is left now
-pub record IsLeft (lookups : Lookups) (rules : List StripRule) (steps : List Step) (parts : List StepExpr) (values : List Value) (c : Context) (old new : Place) (result : Result (Option ℕ) EvalStop) : Type 0 where
+pub record IsLeft (lookups : Lookups) (rules : List StripRule) (steps : List Step) (parts : List StepExpr) (values : List Value) (c : Context) (old new : Place)
+    (result : Result (Option ℕ) EvalStop) : Type 0 where
   pub left : (later : List Step) → Grows steps later → IsLawful later
       → left_at parts old (reading_by lookups rules later) values c ≡ then_stream (all_of (taken_in result)) (left_at parts new (reading_by lookups rules later) values c)
+
+-- what callers see of a stream: its path, its context, and how many items it has given
+abbrev pub path_of : PathStream → Path
+path_of stream = stream.path.now
+
+abbrev pub context_of : PathStream → Context
+context_of stream = stream.context
+
+abbrev pub given_of : PathStream → ℕ
+given_of stream = stream.given
 
 -- a stream of the path that has given nothing
 pub record IsStarted (started : Path) (c : Context) (stream : PathStream) : Type 0 where

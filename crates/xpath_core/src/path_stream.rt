@@ -6,7 +6,7 @@ ghost use Rattle.doc_model.specs.declared.strip_rule.StripRule.{StripRule};
 ghost use Rattle.doc_model.specs.Answers.{Known, Stays};
 ghost use Rattle.doc_model.specs.Lawful.{Grows, IsLawful};
 ghost use Rattle.key_sources.specs.Going.{Lookups, Says, Went};
-ghost use Rattle.xpath_core.specs.Left.{IsStarted, IsStreaming, Took, behind_first, item_behind, taken_in};
+ghost use Rattle.xpath_core.specs.Left.{IsStarted, IsStreaming, Took, behind_first, context_of, given_of, item_behind, path_of, taken_in};
 ghost use Rattle.xpath_core.specs.Ready.{IsReady};
 ghost use Rattle.xpath_laws.specs.Sound.{IsThere};
 ghost use Rattle.xpath_meaning.specs.declared.context.Context.{Context};
@@ -68,10 +68,10 @@ impl<'p> PathStream<'p> {
         keys: &mut K,
         env: &Env,
     ) -> Result<Option<u32>, EvalStop>
-        requires ready { IsReady (V.sees view.old) (K.fits keys.old) (values_of env.now) self.old.context }
+        requires ready { IsReady (V.sees view.old) (K.fits keys.old) (values_of env.now) (context_of self.old) }
         requires stands { IsStreaming (K.made keys.old).lookups (V.sees view.old).rules (V.sees view.old).steps (values_of env.now) self.old }
         ensures went { Went (V.sees view.old) (V.sees view.new) (K.made keys.old) (K.made keys.new) (K.fits keys.new) }
-        ensures answers { Says (K.made keys.old).lookups (λ R. item_behind R self.old.path.now self.old.given (values_of env.now) self.old.context) (V.sees view.old) (V.sees view.new) result }
+        ensures answers { Says (K.made keys.old).lookups (λ R. item_behind R (path_of self.old) (given_of self.old) (values_of env.now) (context_of self.old)) (V.sees view.old) (V.sees view.new) result }
         ensures took { Took self.old self.new result }
         ensures stands { IsStreaming (K.made keys.old).lookups (V.sees view.new).rules (V.sees view.new).steps (values_of env.now) self.new }
     {

@@ -1,4 +1,4 @@
-use Rattle.std.proofs.Common.{◌+◌, ◌*◌, ◌≡◌, drop, length, map, ℕ, suc, List}
+use Rattle.std.proofs.Common.{◌+◌, ◌*◌, ◌≡◌, drop, length, map, List}
 use Rattle.doc_model.specs.Lawful.{IsLawful, Grows}
 use Rattle.doc_model.specs.declared.step.Step.{Step}
 use Rattle.key_sources.proofs.Loops.{Leaves}
@@ -90,7 +90,8 @@ abbrev pub invariant-chain-loop-next : goal.invariant-chain-loop-next
 invariant-chain-loop-next g l = let sees = g.V.NodeView.sees in let keys = g.K.KeySource in record {
   went : Went (sees l.fn.view) (sees l.view) (keys.made l.fn.keys) (keys.made l.keys) (keys.fits l.keys);
   there : IsValue (IsThere (sees l.view).rules (sees l.view).steps) l.result;
-  leaves : Leaves (keys.made l.fn.keys).lookups (sees l.fn.view) (sees l.view) (λ R. going (drop l.next-index l.next-items) l.result R (values_of l.env) l.ctx) (λ R. binary l.fn.op (meant l.left) (meant l.right) R (values_of l.env) l.ctx);
+  leaves : Leaves (keys.made l.fn.keys).lookups (sees l.fn.view) (sees l.view) (λ R. going (drop l.next-index l.next-items) l.result R (values_of l.env) l.ctx)
+      (λ R. binary l.fn.op (meant l.left) (meant l.right) R (values_of l.env) l.ctx);
 }
 
 abbrev pub invariant-arguments-loop-arg : goal.invariant-arguments-loop-arg
@@ -105,7 +106,8 @@ invariant-steps-loop-part g l = record {
   went : Went (g.V.NodeView.sees l.fn.view) (g.V.NodeView.sees l.view) (g.K.KeySource.made l.fn.keys) (g.K.KeySource.made l.keys) (g.K.KeySource.fits l.keys);
   ready : IsReady (g.V.NodeView.sees l.view) (g.K.KeySource.fits l.keys) (values_of l.env) l.ctx;
   there : IsNodeSet (IsThere (g.V.NodeView.sees l.view).rules (g.V.NodeView.sees l.view).steps) l.nodes;
-  leaves : Leaves (g.K.KeySource.made l.fn.keys).lookups (g.V.NodeView.sees l.fn.view) (g.V.NodeView.sees l.view) (λ R. steps_nodes (map meant_step (drop l.part-index l.parts)) l.nodes R (values_of l.env) l.ctx) (λ R. steps_nodes (map meant_step l.parts) l.fn.from R (values_of l.env) l.ctx);
+  leaves : Leaves (g.K.KeySource.made l.fn.keys).lookups (g.V.NodeView.sees l.fn.view) (g.V.NodeView.sees l.view)
+      (λ R. steps_nodes (map meant_step (drop l.part-index l.parts)) l.nodes R (values_of l.env) l.ctx) (λ R. steps_nodes (map meant_step l.parts) l.fn.from R (values_of l.env) l.ctx);
 }
 
 abbrev pub invariant-step_by-loop-node : goal.invariant-step_by-loop-node
@@ -113,7 +115,8 @@ invariant-step_by-loop-node g l = record {
   went : Went (g.V.NodeView.sees l.fn.view) (g.V.NodeView.sees l.view) (g.K.KeySource.made l.fn.keys) (g.K.KeySource.made l.keys) (g.K.KeySource.fits l.keys);
   ready : IsReady (g.V.NodeView.sees l.view) (g.K.KeySource.fits l.keys) (values_of l.env) l.ctx;
   there : Each (IsThere (g.V.NodeView.sees l.view).rules (g.V.NodeView.sees l.view).steps) l.from;
-  leaves : Leaves (g.K.KeySource.made l.fn.keys).lookups (g.V.NodeView.sees l.fn.view) (g.V.NodeView.sees l.view) (λ R. finding (one_step l.part (values_of l.env) l.ctx R) (drop l.node-index l.from) l.all) (λ R. step_nodes (meant_step l.part) l.from R (values_of l.env) l.ctx);
+  leaves : Leaves (g.K.KeySource.made l.fn.keys).lookups (g.V.NodeView.sees l.fn.view) (g.V.NodeView.sees l.view)
+      (λ R. finding (one_step l.part (values_of l.env) l.ctx R) (drop l.node-index l.from) l.all) (λ R. step_nodes (meant_step l.part) l.from R (values_of l.env) l.ctx);
 }
 
 abbrev pub invariant-filtered-loop-predicate : goal.invariant-filtered-loop-predicate
@@ -121,7 +124,8 @@ invariant-filtered-loop-predicate g l = record {
   went : Went (g.V.NodeView.sees l.fn.view) (g.V.NodeView.sees l.view) (g.K.KeySource.made l.fn.keys) (g.K.KeySource.made l.keys) (g.K.KeySource.fits l.keys);
   ready : IsReady (g.V.NodeView.sees l.view) (g.K.KeySource.fits l.keys) (values_of l.env) l.ctx;
   there : Each (IsThere (g.V.NodeView.sees l.view).rules (g.V.NodeView.sees l.view).steps) l.left;
-  leaves : Leaves (g.K.KeySource.made l.fn.keys).lookups (g.V.NodeView.sees l.fn.view) (g.V.NodeView.sees l.view) (λ R. filtered (map meant (drop l.predicate-index l.predicates)) l.left R (values_of l.env) l.ctx) (λ R. filtered (map meant l.predicates) l.fn.nodes R (values_of l.env) l.ctx);
+  leaves : Leaves (g.K.KeySource.made l.fn.keys).lookups (g.V.NodeView.sees l.fn.view) (g.V.NodeView.sees l.view)
+      (λ R. filtered (map meant (drop l.predicate-index l.predicates)) l.left R (values_of l.env) l.ctx) (λ R. filtered (map meant l.predicates) l.fn.nodes R (values_of l.env) l.ctx);
 }
 
 abbrev pub invariant-kept_by-loop-node : goal.invariant-kept_by-loop-node
@@ -130,7 +134,9 @@ invariant-kept_by-loop-node g l = record {
   ready : IsReady (g.V.NodeView.sees l.view) (g.K.KeySource.fits l.keys) (values_of l.env) l.ctx;
   there : Each (IsThere (g.V.NodeView.sees l.view).rules (g.V.NodeView.sees l.view).steps) l.nodes;
   position : l.position ≡ l.node-index;
-  leaves : Leaves (g.K.KeySource.made l.fn.keys).lookups (g.V.NodeView.sees l.fn.view) (g.V.NodeView.sees l.view) (λ R. keeping (holds_of l.predicate (length l.nodes) (values_of l.env) l.ctx R) (l.position + 1) (drop l.node-index l.nodes) l.kept) (λ R. kept_by (meant l.predicate) l.nodes R (values_of l.env) l.ctx);
+  leaves : Leaves (g.K.KeySource.made l.fn.keys).lookups (g.V.NodeView.sees l.fn.view) (g.V.NodeView.sees l.view)
+      (λ R. keeping (holds_of l.predicate (length l.nodes) (values_of l.env) l.ctx R) (l.position + 1) (drop l.node-index l.nodes) l.kept)
+      (λ R. kept_by (meant l.predicate) l.nodes R (values_of l.env) l.ctx);
 }
 
 abbrev pub invariant-tested-loop-predicate : goal.invariant-tested-loop-predicate
@@ -139,7 +145,9 @@ invariant-tested-loop-predicate g l = record {
   ready : IsReady (g.V.NodeView.sees l.view) (g.K.KeySource.fits l.keys) (values_of l.env) l.ctx;
   there : IsThere (g.V.NodeView.sees l.view).rules (g.V.NodeView.sees l.view).steps l.n;
   long : length l.after ≡ l.predicate-index;
-  leaves : Leaves (g.K.KeySource.made l.fn.keys).lookups (g.V.NodeView.sees l.fn.view) (g.V.NodeView.sees l.view) (λ R. testing (drop l.predicate-index l.predicates) (drop l.predicate-index l.counts) l.n l.after R (values_of l.env) l.ctx) (λ R. tested (map meant l.predicates) l.counts l.n R (values_of l.env) l.ctx);
+  leaves : Leaves (g.K.KeySource.made l.fn.keys).lookups (g.V.NodeView.sees l.fn.view) (g.V.NodeView.sees l.view)
+      (λ R. testing (drop l.predicate-index l.predicates) (drop l.predicate-index l.counts) l.n l.after R (values_of l.env) l.ctx)
+      (λ R. tested (map meant l.predicates) l.counts l.n R (values_of l.env) l.ctx);
 }
 
 abbrev pub invariant-next_item-walk : goal.invariant-next_item-walk
@@ -147,7 +155,9 @@ invariant-next_item-walk g l = record {
   went : Went (g.V.NodeView.sees l.fn.view) (g.V.NodeView.sees l.view) (g.K.KeySource.made l.fn.keys) (g.K.KeySource.made l.keys) (g.K.KeySource.fits l.keys);
   ready : IsReady (g.V.NodeView.sees l.view) (g.K.KeySource.fits l.keys) (values_of l.env) l.ctx;
   place : IsPlace (g.V.NodeView.sees l.view).rules (g.V.NodeView.sees l.view).steps l.parts l.place;
-  left : (q : List Step) → Grows (g.V.NodeView.sees l.view).steps q → IsLawful q → left_at l.parts l.fn.place (reading_by (g.K.KeySource.made l.fn.keys).lookups (g.V.NodeView.sees l.view).rules q) (values_of l.env) l.ctx ≡ left_at l.parts l.place (reading_by (g.K.KeySource.made l.fn.keys).lookups (g.V.NodeView.sees l.view).rules q) (values_of l.env) l.ctx;
+  left : (q : List Step) → Grows (g.V.NodeView.sees l.view).steps q → IsLawful q
+      → left_at l.parts l.fn.place (reading_by (g.K.KeySource.made l.fn.keys).lookups (g.V.NodeView.sees l.view).rules q) (values_of l.env) l.ctx
+      ≡ left_at l.parts l.place (reading_by (g.K.KeySource.made l.fn.keys).lookups (g.V.NodeView.sees l.view).rules q) (values_of l.env) l.ctx;
 }
 
 abbrev pub decreases-next_item-walk : goal.decreases-next_item-walk

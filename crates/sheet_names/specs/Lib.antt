@@ -1,0 +1,9 @@
+pub mod Names
+pub mod Keys
+pub mod Slots
+pub mod Placing
+pub mod Joining
+pub mod Searching
+pub mod Values
+pub mod Declaring
+pub mod Judging
