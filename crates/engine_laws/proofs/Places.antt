@@ -20,14 +20,14 @@ use Rattle.engine_meaning.specs.Sorts.{sorted_places_of}
 use Rattle.engine_laws.proofs.Insertion.{NotBefore, NoneBefore, Ascends, sorted_ascends, all_through}
 
 -- one, for this number
-abbrev one_for : ℕ → ℕ → ℕ
+abbrev pub one_for : ℕ → ℕ → ℕ
 one_for z x = cond (x == z) 1 0
 
 -- how often a number stands in a list
-abbrev times : ℕ → List ℕ → ℕ
+abbrev pub times : ℕ → List ℕ → ℕ
 times z xs = sum_by (one_for z) xs
 
-more_times : (z x : ℕ) (xs : List ℕ) → times z (x ∷ xs) ≡ one_for z x + times z xs
+pub more_times : (z x : ℕ) (xs : List ℕ) → times z (x ∷ xs) ≡ one_for z x + times z xs
 more_times z x xs = sum_by-cons (one_for z) x xs
 
 itself_once : (z : ℕ) → one_for z z ≡ 1
@@ -47,7 +47,7 @@ module _ (cmp : ℕ → ℕ → Ordering) where
           omega (arith, r, a, b, c, d)
       by_test false r = refl
 
-  times_sorted : (z : ℕ) (xs : List ℕ) → times z (sorted_by cmp xs) ≡ times z xs
+  pub times_sorted : (z : ℕ) (xs : List ℕ) → times z (sorted_by cmp xs) ≡ times z xs
   times_sorted z [] = refl
   times_sorted z (x ∷ xs) =
       let a = times_placed z x (sorted_by cmp xs) in
@@ -88,7 +88,7 @@ module _ (cmp : ℕ → ℕ → Ordering) where
     ]
 
     -- two ascending lists in which each number stands as often are one
-    one_ascending : (xs ys : List ℕ) → Ascends cmp xs → Ascends cmp ys → ((z : ℕ) → times z xs ≡ times z ys) → xs ≡ ys
+    pub one_ascending : (xs ys : List ℕ) → Ascends cmp xs → Ascends cmp ys → ((z : ℕ) → times z xs ≡ times z ys) → xs ≡ ys
     one_ascending [] [] a b t = refl
     one_ascending [] (y ∷ ys) a b t = absurd (let n = more_times y y ys in let o = itself_once y in let q : 0 ≡ times y (y ∷ ys) = t y in omega (arith, n, o, q))
     one_ascending (x ∷ xs) [] a b t = absurd (let n = more_times x x xs in let o = itself_once x in let q : times x (x ∷ xs) ≡ 0 = t x in omega (arith, n, o, q))
@@ -104,7 +104,7 @@ module _ (cmp : ℕ → ℕ → Ordering) where
     not_less Greater e l = cc
 
     -- a list in which no neighbour comes before the one before it
-    ascending : (xs : List ℕ) → IsSorted cmp xs → Ascends cmp xs
+    pub ascending : (xs : List ℕ) → IsSorted cmp xs → Ascends cmp xs
     ascending [] s = tt
     ascending (x ∷ []) s = (tt, tt)
     ascending (x ∷ y ∷ ys) s =

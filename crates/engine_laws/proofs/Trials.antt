@@ -16,7 +16,7 @@ use Rattle.rule_choice.specs.Choice.{Candidate, candidates_from, trial_cmp, is_o
 use Rattle.engine_laws.specs.Rules.{StandsOver, IsChoice, IsBuiltIn}
 use Rattle.engine_laws.proofs.Insertion.{NoneBefore, Ascends, each_sorted, of_sorted, not_before_itself, sorted_ascends}
 
-then_total : {K : Type 0} {R S : K → K → Ordering} → IsTotalOrder R → IsTotalOrder S → IsTotalOrder (λ x y. ordering_then (R x y) (S x y))
+pub then_total : {K : Type 0} {R S : K → K → Ordering} → IsTotalOrder R → IsTotalOrder S → IsTotalOrder (λ x y. ordering_then (R x y) (S x y))
 then_total r s = total (then_po (partial_order_from_total r) (partial_order_from_total s)) (then_agrees (λ x y. refl) (λ x y. refl))
 
 trial_total : IsTotalOrder trial_cmp
@@ -63,7 +63,7 @@ module _ (P : Candidate → Type 0) (mode : ℕ) where
   kept c cs true e p a = (p e, a)
   kept c cs false e p a = a
 
-  all_candidates : (at : ℕ) (rules : List Rule) → ((k : ℕ) (rule : Rule) → slice_get rules k ≡ Some rule → rule.mode ≡ mode → P (candidate (at + k) rule))
+  pub all_candidates : (at : ℕ) (rules : List Rule) → ((k : ℕ) (rule : Rule) → slice_get rules k ≡ Some rule → rule.mode ≡ mode → P (candidate (at + k) rule))
       → Each P (filter (is_of_mode mode) (candidates_from at rules))
   all_candidates at [] h = tt
   all_candidates at (rule ∷ rules) h =
@@ -92,7 +92,7 @@ module _ (P : Candidate → Type 0) (mode : ℕ) where
       subst (λ z. P (candidate z rule)) (omega arith)
       (at_candidate (suc at) rules (later_kept (candidate at r) (candidates_from (suc at) rules) (is_of_mode mode (candidate at r)) a) k rule e m)
 
-  each_tried : (rules : List Rule) → ((k : ℕ) (rule : Rule) → slice_get rules k ≡ Some rule → rule.mode ≡ mode → P (candidate k rule)) → Each P (tried rules mode)
+  pub each_tried : (rules : List Rule) → ((k : ℕ) (rule : Rule) → slice_get rules k ≡ Some rule → rule.mode ≡ mode → P (candidate k rule)) → Each P (tried rules mode)
   unfolding tried
   each_tried rules h = each_sorted trial_cmp P (filter (is_of_mode mode) (candidates_from 0 rules)) (all_candidates 0 rules (λ k r e m. subst (λ z. P (candidate z r)) (omega arith) (h k r e m)))
 
@@ -148,9 +148,9 @@ module _ (R : Reading) (n : ℕ) where
   none_of_all (d ∷ ds) e = none_in d ds (matches R n d) refl e (none_of_all ds)
 
 -- a candidate is a rule of the mode at its place
-record IsRule (rules : List Rule) (mode : ℕ) (c : Candidate) : Type 0 where
-  there : slice_get rules c.place ≡ Some c.rule
-  of_mode : c.rule.mode ≡ mode
+pub record IsRule (rules : List Rule) (mode : ℕ) (c : Candidate) : Type 0 where
+  pub there : slice_get rules c.place ≡ Some c.rule
+  pub of_mode : c.rule.mode ≡ mode
 
 found_by : (o : Outcome (Option Candidate)) (place : ℕ) → and_then o (λ found. Known (option_map (λ (c : Candidate). c.place) found)) ≡ Known (Some place)
     → (c : Candidate) × (o ≡ Known (Some c)) × (c.place ≡ place)

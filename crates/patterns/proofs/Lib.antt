@@ -1,0 +1,9 @@
+pub mod Climbing
+pub mod Standing
+pub mod Trying
+pub mod Going
+pub mod Keeping
+pub mod Parts
+pub mod Lasting
+pub mod Forking
+pub mod Beside

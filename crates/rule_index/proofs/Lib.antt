@@ -1,0 +1,4 @@
+pub mod Counting
+pub mod Tried
+pub mod Lasts
+pub mod Chosen
