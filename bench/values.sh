@@ -1,8 +1,8 @@
 #!/usr/bin/env bash
-# What calls over texts and results cost as their input doubles, in processor time of one run of `value_costs`: string
-# functions on texts that are made to be dear for them, sorted rows, events in order, and the bytes of elements whose
-# attributes clash. The status is 1 where one costs more than 2.2 times its half, or, for sorted rows, 3.2 times: past the
-# caches each comparison waits for memory, though twice the rows take 2.1 times the instructions.
+# What calls over texts, results and nodes cost as their input doubles, in processor time of one run of `value_costs`:
+# string functions on texts that are made to be dear for them, sorted rows, events in order, the bytes of elements whose
+# attributes clash, and copies of documents. The status is 1 where one costs more than 2.2 times its half, or, for sorted
+# rows, 3.2 times: past the caches each comparison waits for memory, though twice the rows take 2.1 times the instructions.
 PACE=crates/value_costs/out/value_costs
 . "$(dirname "$0")/common.sh"
 
@@ -39,5 +39,6 @@ texts 1000000 2.2
 attributes 100000 2.2
 clashes 50000 2.2
 children 50000 2.2
+copies 50000 2.2
 KINDS
 exit "$dear"

@@ -34,8 +34,8 @@ pub(crate) fn begin_shown<V: NodeView>(
 }
 
 /// Appends what comes before the attributes and the children of row `k`, which has this kind: the start of an element,
-/// nothing of the root, and all of another row.
-pub(crate) fn begin<V: NodeView>(
+/// nothing of the root, and all of another row. Fails only for want of memory.
+pub fn begin<V: NodeView>(
     alloc: Global,
     view: &mut V,
     k: u32,
@@ -58,26 +58,28 @@ pub(crate) fn begin<V: NodeView>(
         }
         Kind::Attribute => {
             let name = name_of(alloc, view, k)?;
-            let value = text_of(alloc, view, k)?;
+            let value = own_value(alloc, view, k)?;
             made.push(alloc, ResultEvent::Attr { name, value })
         }
         Kind::Text => {
-            let text = text_of(alloc, view, k)?;
+            let text = own_value(alloc, view, k)?;
             made.push(alloc, ResultEvent::Text(text))
         }
         Kind::Instruction => {
             let target = name_of(alloc, view, k)?.local;
-            let value = text_of(alloc, view, k)?;
+            let value = own_value(alloc, view, k)?;
             made.push(alloc, ResultEvent::Instruction { target, value })
         }
         Kind::Comment => {
-            let text = text_of(alloc, view, k)?;
+            let text = own_value(alloc, view, k)?;
             made.push(alloc, ResultEvent::Comment(text))
         }
     }
 }
 
-fn name_of<V: NodeView>(alloc: Global, view: &mut V, k: u32) -> Result<Name, AllocError>
+/// The expanded name and the prefix of row `k`; an instruction's target is its local name (XPath 1.0, section 5). Fails
+/// only for want of memory.
+pub fn name_of<V: NodeView>(alloc: Global, view: &mut V, k: u32) -> Result<Name, AllocError>
     requires { IsJoined (V.sees view.old).steps k }
     ensures moves { Moves (V.sees view.old) (V.sees view.new) }
     ensures value { IfOk result (λ name. name ≡ result_name (row_at (rows_of (V.sees view.new).steps) k)) }
@@ -92,8 +94,9 @@ fn name_of<V: NodeView>(alloc: Global, view: &mut V, k: u32) -> Result<Name, All
     Ok(Name { prefix, uri, local })
 }
 
-// The value of the row itself.
-fn text_of<V: NodeView>(alloc: Global, view: &mut V, k: u32) -> Result<List<u8>, AllocError>
+/// The value of row `k` itself, in UTF-8: that of an attribute, a text, a comment or an instruction. Fails only for want
+/// of memory.
+pub fn own_value<V: NodeView>(alloc: Global, view: &mut V, k: u32) -> Result<List<u8>, AllocError>
     requires { IsJoined (V.sees view.old).steps k }
     ensures moves { Moves (V.sees view.old) (V.sees view.new) }
     ensures value { IfOk result (λ text. text ≡ (row_at (rows_of (V.sees view.new).steps) k).value) }

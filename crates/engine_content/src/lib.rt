@@ -5,5 +5,6 @@ mod beginning;
 mod climbing;
 mod copying;
 
+pub use beginning::{begin, name_of, own_value};
 pub use copying::copy_node;
 pub use doc_model::Ask;

@@ -3,7 +3,8 @@ use Rattle.std.proofs.Common.{◌≡◌, refl, sym, ap, ◌∙◌, List, take, l
 use Rattle.engine_meaning.specs.Runs.{State, Ran, Done, Faulted, Waits, Run, after, pure, with_events, back_to}
 use Rattle.frame_meaning.proofs.Locals.{Adds, take_back}
 use Rattle.frame_meaning.proofs.Surfaces.{surface_out}
-use Rattle.frame_meaning.specs.Apart.{innermost, under}
+use Rattle.frame_meaning.specs.Apart.{under}
+use Rattle.frames.specs.Apart.{innermost}
 use Rattle.frame_meaning.specs.Stand.{Stand, at_place}
 use Rattle.result_events.specs.declared.event.ResultEvent.{ResultEvent}
 use Rattle.xpath_meaning.specs.declared.context.Context.{Context}

@@ -19,7 +19,8 @@ use Rattle.frame_meaning.proofs.Locals.{body_adds}
 use Rattle.frame_meaning.proofs.Surfaces.{after_assoc}
 use Rattle.frame_meaning.proofs.Variables.{gives, uses}
 use Rattle.frame_meaning.specs.Acted.{room}
-use Rattle.frame_meaning.specs.Apart.{base, surface, under}
+use Rattle.frame_meaning.specs.Apart.{surface, under}
+use Rattle.frames.specs.Apart.{base}
 use Rattle.frame_meaning.specs.Rest.{rest}
 use Rattle.frame_meaning.specs.Stand.{Stand, at_place, setting_at}
 use Rattle.frame_meaning.specs.Uses.{at_root, begun_global, globals_left}

@@ -21,7 +21,8 @@ use Rattle.frame_meaning.proofs.Layers.{binding_is, does_is}
 use Rattle.frame_meaning.proofs.Locals.{body_adds}
 use Rattle.frame_meaning.proofs.Surfaces.{after_assoc, under_assoc}
 use Rattle.frame_meaning.specs.Acted.{acted, room}
-use Rattle.frame_meaning.specs.Apart.{base, surface, under}
+use Rattle.frame_meaning.specs.Apart.{surface, under}
+use Rattle.frames.specs.Apart.{base}
 use Rattle.frame_meaning.specs.Rest.{rest}
 use Rattle.frame_meaning.specs.Stand.{Stand, at_place, setting_at}
 use Rattle.frame_meaning.specs.Selects.{selects}
@@ -136,7 +137,7 @@ module _ (sheet : Sheet) (w : World) (others : Bor (List Instruction)) (kept : �
       ≡ after (under (base frames) (after (shallow row.kind row (map does body.now) W T c s) (λ _. pure c.locals))) R
   copy_as s body row is = known (base frames) s (λ row. shallow row.kind row (map does body.now) W T c >> pure c.locals) R (row_here W c) row is
 
-  copy_by : (s : State) (body : Bor (List Instruction)) (row : Row) (k : Kind) → row_here W c ≡ Known row → row.kind ≡ k → does_it (Instruction-F.Copy (map does body.now)) s
+  pub copy_by : (s : State) (body : Bor (List Instruction)) (row : Row) (k : Kind) → row_here W c ≡ Known row → row.kind ≡ k → does_it (Instruction-F.Copy (map does body.now)) s
       ≡ after (under (base frames) (after (shallow k row (map does body.now) W T c s) (λ _. pure c.locals))) R
   copy_by s body row k is of = copy_as s body row is ∙ ap (λ k. after (under (base frames) (after (shallow k row (map does body.now) W T c s) (λ _. pure c.locals))) R) of
 

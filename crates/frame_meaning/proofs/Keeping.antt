@@ -2,6 +2,8 @@
 use Rattle.std.proofs.Common.{◌≡◌, refl, sym, ap, ◌∙◌, subst, ℕ, zero, suc, List, [], ◌∷◌, ◌++◌, drop, length, map, Bool, true, false, Option, Some, None}
 use Rattle.std.specs.Borrow.{Bor}
 use Rattle.std.specs.Prelude.{slice_get, slice_set}
+use Rattle.doc_model.specs.declared.node_test.Test.TheVariants as test
+use Rattle.doc_model.specs.declared.row.Axis.TheVariants as axis
 use Rattle.engine_laws.proofs.Asking.{rows_stay}
 use Rattle.engine_laws.proofs.Grows as grows
 use Rattle.engine_laws.proofs.Grows.{AllOf, TemplatesKeep, templates_keep}
@@ -13,7 +15,7 @@ use Rattle.engine_meaning.specs.Runs.{State, Run}
 use Rattle.engine_questions.specs.Walks.{flow, select_of}
 use Rattle.frame_meaning.proofs.Layers.{case_is, does_is}
 use Rattle.frame_meaning.proofs.Surfaces.{Lasts, keeps_last, surface_out}
-use Rattle.frame_meaning.specs.Apart.{outside}
+use Rattle.frames.specs.Apart.{outside}
 use Rattle.frame_meaning.specs.Stand.{Stand}
 use Rattle.frame_meaning.specs.Uses.{begun_global, calls, declares, givens, globals_left, params_left, passes, receives, used}
 use Rattle.frame_meaning.specs.Work.{bodies_of, frame_does, layer, left_does, work_does}
@@ -172,6 +174,9 @@ module _ (sheet : Sheet) (w v : World) (x : Continues w v) where
       (pure_keeps _))
   frame_lasts (f.Items nodes next k context) b more h =
       keeps_last b (then_keeps (each_keeps (work_keeps h.globals k _ _ (templates_keep sheet h.globals w v x more) h.place.locals) _ (suc next) (drop next nodes) Whole) (pure_keeps _))
+  frame_lasts (f.Children mode) b more h =
+      keeps_last b (then_keeps (bind_keeps (ask_keeps _ _ (x.reading.axis axis.Child test.Any h.place.context.node))
+      (λ nodes. over_keeps nodes (λ y. (templates_keep sheet h.globals w v x more).at (InMode mode) [] y))) (pure_keeps h))
   frame_lasts (f.Keys nodes rows sorts k context) b more h =
       keeps_last b (then_keeps (bind_keeps (ask_keeps _ _ (rows_stay sheet h.globals w v x h.place sorts.now _ _ (drop (length rows) nodes)))
       (λ others. over_keeps _ (work_keeps h.globals k _ _ (templates_keep sheet h.globals w v x more) h.place.locals))) (pure_keeps _))

@@ -10,7 +10,8 @@ use Rattle.engine_meaning.specs.Places.{World, setting}
 use Rattle.engine_meaning.specs.Runs.{State, Ran, Done, Faulted, Waits, after}
 use Rattle.frame_meaning.proofs.Keeping.{frame_lasts}
 use Rattle.frame_meaning.proofs.Surfaces.{Lasts, after_assoc, after_same, under_lasts}
-use Rattle.frame_meaning.specs.Apart.{base, under}
+use Rattle.frame_meaning.specs.Apart.{under}
+use Rattle.frames.specs.Apart.{base}
 use Rattle.frame_meaning.specs.Rest.{rest}
 use Rattle.frame_meaning.specs.Stand.{Stand}
 use Rattle.frame_meaning.specs.Uses.{at_root}

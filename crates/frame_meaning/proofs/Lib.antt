@@ -10,4 +10,5 @@ pub mod Selecting
 pub mod Variables
 pub mod Opening
 pub mod Items
+pub mod Keys
 pub mod Frames

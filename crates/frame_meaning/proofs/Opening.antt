@@ -1,13 +1,15 @@
 -- How templates are opened.
-use Rattle.std.proofs.Common.{◌≡◌, refl, sym, ap, ◌∙◌, ℕ, zero, suc, ◌-◌, ◌<◌, List, [], ◌∷◌, append-nil, Bool, false, Option, Some, None, arith}
+use Rattle.std.proofs.Common.{◌≡◌, refl, sym, ap, ◌∙◌, ℕ, zero, suc, ◌-◌, ◌<◌, List, [], ◌∷◌, append-nil, Bool, true, false, Option, Some, None, arith}
 use Rattle.std.specs.Borrow.{Bor}
 use Rattle.std.specs.Prelude.{slice_get}
 use Rattle.doc_model.specs.Answers.{Known, Fault, Open}
+use Rattle.doc_model.specs.declared.node_test.Test.TheVariants as test
+use Rattle.doc_model.specs.declared.row.Axis.TheVariants as axis
 use Rattle.doc_model.specs.declared.row.Kind.{Kind}
 use Rattle.doc_model.specs.declared.row.Kind.TheVariants as kind
 use Rattle.doc_model.specs.declared.row.Row.{Row}
 use Rattle.engine_meaning.specs.Execution.{Called, InMode, Named, Templates, built_in_of, chosen, instantiated, most_nested, template_does, template_of, templates}
-use Rattle.engine_meaning.specs.Items.{children_by}
+use Rattle.engine_meaning.specs.Items.{children_by, over}
 use Rattle.engine_meaning.specs.Places.{World, Setting, place, Given}
 use Rattle.engine_meaning.specs.Runs.{State, Ran, Done, Faulted, Waits, Run, after, ◌>>=◌, ◌>>◌, pure, ask, spend, emit}
 use Rattle.engine_meaning.specs.Sizes.{asks_size}
@@ -15,7 +17,8 @@ use Rattle.fault_kinds.specs.declared.fault.FaultKind.{FaultKind}
 use Rattle.fault_kinds.specs.declared.fault.FaultKind.TheVariants.{Budget, TooDeep}
 use Rattle.frame_meaning.proofs.Instructions.{with_event, with_unit, emptied}
 use Rattle.frame_meaning.specs.Acted.{room}
-use Rattle.frame_meaning.specs.Apart.{base, surface, under}
+use Rattle.frame_meaning.specs.Apart.{surface, under}
+use Rattle.frames.specs.Apart.{base}
 use Rattle.frame_meaning.specs.Opened.{opened}
 use Rattle.frame_meaning.specs.Rest.{rest}
 use Rattle.frame_meaning.specs.Stand.{Stand, at_place, setting_at}
@@ -103,7 +106,7 @@ module _ (sheet : Sheet) (w : World) (frames : List Frame) (h : Stand) where
 
   -- the built-in rules
 
-  built_in_as : (called : Called) (given : List Given) (s : State) (row : Row) (k : Kind) → depth frames < most_nested → w.reading.row x.node ≡ Known row → row.kind ≡ k
+  pub built_in_as : (called : Called) (given : List Given) (s : State) (row : Row) (k : Kind) → depth frames < most_nested → w.reading.row x.node ≡ Known row → row.kind ≡ k
       → opening called given None (with_unit s) ≡ after (under (base frames) (after (built_in_of k called W inner x s) (λ _. pure h))) R
   built_in_as called given s row k below is of =
       opened_as called given None s below
@@ -156,7 +159,7 @@ module _ (sheet : Sheet) (w : World) (frames : List Frame) (h : Stand) where
   element_no_unit called given s row below is of = built_in_as called given (emptied s) row kind.Element below is of
 
   -- the root and elements: the children
-  children_left : (mode : ℕ) (s : State) (sizes : Bool) → asks_size sheet ≡ sizes
+  pub children_left : (mode : ℕ) (s : State) (sizes : Bool) → asks_size sheet ≡ sizes
       → after (under (base frames) (after (children_by (asks_size sheet) W x.node (inner (InMode mode) []) s) (λ _. pure h))) R
       ≡ after (under (base frames) (after (children_by sizes W x.node (inner (InMode mode) []) s) (λ _. pure h))) R
   children_left mode s sizes is = ap (λ b. after (under (base frames) (after (children_by b W x.node (inner (InMode mode) []) s) (λ _. pure h))) R) is
@@ -164,7 +167,7 @@ module _ (sheet : Sheet) (w : World) (frames : List Frame) (h : Stand) where
   abbrev pub stream_below : ℕ → List Frame
   stream_below mode = f.Stream None 0 (work.ByMode mode []) x ∷ f.Template h.place.locals x ∷ frames
 
-  streams_so : (mode : ℕ) (s : State)
+  pub streams_so : (mode : ℕ) (s : State)
       → after (under (base frames) (after (children_by false W x.node (inner (InMode mode) []) s) (λ _. pure h))) R ≡ rest sheet w (stream_below mode) (at_place h x []) s
   streams_so mode s = elsewhere (base frames) (children_by false W x.node (inner (InMode mode) []) s) h (at_place h x []) R (rest sheet w (f.Template h.place.locals x ∷ frames)) (λ t. refl)
 
@@ -175,6 +178,34 @@ module _ (sheet : Sheet) (w : World) (frames : List Frame) (h : Stand) where
   pub element_streams : (mode : ℕ) (given : List Given) (s : State) (row : Row) → depth frames < most_nested → w.reading.row x.node ≡ Known row → row.kind ≡ kind.Element → asks_size sheet ≡ false
       → opening (InMode mode) given None (with_unit (with_unit s)) ≡ rest sheet w (stream_below mode) (at_place h x []) s
   element_streams mode given s row below is of sizes = built_in_as (InMode mode) given (with_unit s) row kind.Element below is of ∙ children_left mode s false sizes ∙ streams_so mode s
+
+  -- a stylesheet that asks for sizes: the children are known whole first
+  abbrev pub children_below : ℕ → List Frame
+  children_below mode = f.Children mode ∷ f.Template h.place.locals x ∷ frames
+
+  pub children_so : (mode : ℕ) (s : State)
+      → after (under (base frames) (after (children_by true W x.node (inner (InMode mode) []) s) (λ _. pure h))) R ≡ rest sheet w (children_below mode) (at_place h x []) s
+  children_so mode s = elsewhere (base frames) (children_by true W x.node (inner (InMode mode) []) s) h (at_place h x []) R (rest sheet w (f.Template h.place.locals x ∷ frames)) (λ t. refl)
+
+-- the children of the context node, as they are known
+
+module _ (sheet : Sheet) (w : World) (frames : List Frame) (h : Stand) (s : State) where
+  children_as : (mode : ℕ) (o : Outcome (List ℕ)) → w.reading.axis axis.Child test.Any h.place.context.node ≡ o → rest sheet w (f.Children mode ∷ frames) h s
+      ≡ after (under (base frames) (after (after (ask o s) (over (room sheet w frames h (InMode mode) []))) (λ _. pure h))) (rest sheet w frames)
+  children_as mode o is =
+      ap (λ (o : Outcome (List ℕ)). after (under (base frames) (after (after (ask o s) (over (room sheet w frames h (InMode mode) []))) (λ _. pure h))) (rest sheet w frames)) is
+
+  pub children_move : (mode : ℕ) (nodes : List ℕ) → w.reading.axis axis.Child test.Any h.place.context.node ≡ Known nodes
+      → rest sheet w (f.Children mode ∷ frames) h s ≡ rest sheet w (f.Items nodes 0 (work.ByMode mode []) h.place.context ∷ frames) h s
+  children_move mode nodes is = children_as mode (Known nodes) is
+
+  pub children_fail : (mode : ℕ) (k : FaultKind) → w.reading.axis axis.Child test.Any h.place.context.node ≡ Fault k
+      → rest sheet w (f.Children mode ∷ frames) h s ≡ Faulted k (surface (base frames) s)
+  children_fail mode k is = children_as mode (Fault k) is
+
+  pub children_wait : (mode : ℕ) (m : ℕ) → w.reading.axis axis.Child test.Any h.place.context.node ≡ Open m
+      → rest sheet w (f.Children mode ∷ frames) h s ≡ Waits m (surface (base frames) s)
+  children_wait mode m is = children_as mode (Open m) is
 
 -- a template that is not chosen yet, and values that are handed on to one
 

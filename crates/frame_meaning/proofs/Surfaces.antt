@@ -3,7 +3,8 @@ use Rattle.std.proofs.Common.{◌≡◌, refl, sym, ap, subst, List, Option, Som
 use Rattle.engine_laws.proofs.Keeping.{Keeps, begins_trans, with_begins}
 use Rattle.engine_laws.specs.Growing.{Begins, state_of, Later}
 use Rattle.engine_meaning.specs.Runs.{State, Ran, Done, Faulted, Waits, Run, after, with_events}
-use Rattle.frame_meaning.specs.Apart.{innermost, surface, under}
+use Rattle.frame_meaning.specs.Apart.{surface, under}
+use Rattle.frames.specs.Apart.{innermost}
 use Rattle.result_events.specs.declared.event.ResultEvent.{ResultEvent}
 
 -- as Keeps, where b stands outside before the run, and d behind it

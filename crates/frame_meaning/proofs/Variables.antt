@@ -16,7 +16,8 @@ use Rattle.frame_meaning.proofs.Layers.{binding_is, giving_is}
 use Rattle.frame_meaning.proofs.Locals.{body_adds}
 use Rattle.frame_meaning.proofs.Surfaces.{after_assoc, after_same}
 use Rattle.frame_meaning.specs.Acted.{room}
-use Rattle.frame_meaning.specs.Apart.{base, surface, under}
+use Rattle.frame_meaning.specs.Apart.{surface, under}
+use Rattle.frames.specs.Apart.{base}
 use Rattle.frame_meaning.specs.Rest.{rest}
 use Rattle.frame_meaning.specs.Stand.{Stand, stand, at_place, setting_at}
 use Rattle.frame_meaning.specs.Uses.{calls, declares, given_of, givens, passes, used}

@@ -4,7 +4,8 @@ use Rattle.std.specs.Borrow.{Bor}
 use Rattle.engine_meaning.specs.Execution.{Action, Giving, Binding, Case, Templates, acts, most_nested, templates}
 use Rattle.engine_meaning.specs.Places.{World}
 use Rattle.engine_meaning.specs.Runs.{Run, after}
-use Rattle.frame_meaning.specs.Apart.{base, under}
+use Rattle.frame_meaning.specs.Apart.{under}
+use Rattle.frames.specs.Apart.{base}
 use Rattle.frame_meaning.specs.Rest.{rest}
 use Rattle.frame_meaning.specs.Stand.{Stand, at_place, setting_at}
 use Rattle.frames.specs.Depth.{depth}

@@ -3,7 +3,8 @@ use Rattle.std.specs.Prelude.{◌-◌, List, [], ◌∷◌}
 use Rattle.engine_meaning.specs.Execution.{most_nested}
 use Rattle.engine_meaning.specs.Places.{World}
 use Rattle.engine_meaning.specs.Runs.{Run, Done, after}
-use Rattle.frame_meaning.specs.Apart.{base, under}
+use Rattle.frame_meaning.specs.Apart.{under}
+use Rattle.frames.specs.Apart.{base}
 use Rattle.frame_meaning.specs.Stand.{Stand}
 use Rattle.frame_meaning.specs.Work.{frame_does}
 use Rattle.frames.specs.Depth.{depth}

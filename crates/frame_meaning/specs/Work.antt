@@ -3,7 +3,7 @@ use Rattle.std.specs.Prelude.{ℕ, suc, List, [], ◌∷◌, ◌++◌, drop, len
 use Rattle.std.specs.Borrow.{Bor}
 use Rattle.engine_meaning.specs.Execution.{InMode, Templates, Action, Giving, Binding, Case, acts, attributes_in, binding_of, body_does, case_of}
 use Rattle.engine_meaning.specs.Execution.{chosen_case, copies_in, does, giving_of, templates, within}
-use Rattle.engine_meaning.specs.Items.{AtItem, each, over}
+use Rattle.engine_meaning.specs.Items.{AtItem, children_by, each, over}
 use Rattle.engine_meaning.specs.Places.{World, Setting, place}
 use Rattle.engine_meaning.specs.Runs.{Run, ◌>>=◌, ◌>>◌, pure, ask, emit, with_events}
 use Rattle.engine_meaning.specs.Sorts.{rows_from, in_key_order}
@@ -66,6 +66,7 @@ frame_does (f.Stream select taken k context) sheet w more h =
 frame_does (f.Items nodes next k context) sheet w more h =
     each (work_does k (setting_at sheet w h) (templates more (setting_at sheet w h)) h.place.locals) (size.Known (length nodes)) (suc next) (drop next nodes) Whole
     >> pure (at_place h context h.place.locals)
+frame_does (f.Children mode) sheet w more h = children_by true (setting_at sheet w h) h.place.context.node (templates more (setting_at sheet w h) (InMode mode) []) >> pure h
 frame_does (f.Keys nodes rows sorts k context) sheet w more h =
     (ask (rows_from (setting_at sheet w h) h.place sorts.now (size.Known (length nodes)) (suc (length rows)) (drop (length rows) nodes))
     >>= λ others. over (work_does k (setting_at sheet w h) (templates more (setting_at sheet w h)) h.place.locals) (in_key_order sorts.now nodes (rows ++ others)))

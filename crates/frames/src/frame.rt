@@ -65,6 +65,12 @@ pub enum Frame<'s> {
         work: Work<'s>,
         context: Context,
     },
+    /// The children of the context node, which must be known whole first: the built-in rule of a stylesheet that asks for
+    /// sizes (XSLT 1.0, section 5.8).
+    Children {
+        /// That of the templates that they have; 0 is no mode.
+        mode: u32,
+    },
     /// Items whose sort keys are evaluated, one row of keys for each from the first on (XSLT 1.0, section 10).
     Keys {
         nodes: List<u32>,

@@ -1,10 +1,12 @@
 //! The frames of a transformation, the top first.
 
-ghost use Rattle.std.specs.Prelude.{◌≡◌, [], ◌∷◌, ◌≤◌, IfOk, OnOk, OnErr, MatchOption};
+ghost use Rattle.std.specs.Prelude.{◌≡◌, [], ◌∷◌, ◌≤◌, option_map, IfOk, OnOk, OnErr, MatchOption};
+ghost use Rattle.frames.specs.Apart.{base};
 ghost use Rattle.frames.specs.Depth.{HasRoom, depth, deeper};
 
 use crate::frame::Frame;
 use lists::List;
+use result_events::Buffer;
 use std::alloc::{AllocError, Global};
 use std::marker::Model;
 
@@ -64,6 +66,19 @@ impl<'s> Stack<'s> {
         self.items.push(frame)?;
         self.nested = nested;
         Ok(())
+    }
+
+    /// The result events outside of the outermost body that is run apart; none, where no body is. Takes at most as many
+    /// steps as there are frames.
+    pub fn outermost(&self) -> Option<&Buffer>
+        ensures { option_map (λ buffer. buffer.now) result ≡ base self.now }
+    {
+        for frame in self.items.as_slice() {
+            if let Frame::Apart { outer, .. } = frame {
+                return Some(outer);
+            }
+        }
+        None
     }
 
     /// Takes the top frame off.

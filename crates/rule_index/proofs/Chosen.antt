@@ -15,9 +15,9 @@ use Rattle.xpath_nodes.proofs.Turning.{rest_of, no_rest}
 use Rattle.rule_choice.specs.Choice.{Candidate, tried, first_that, matches, choice_of}
 use Rattle.engine_laws.proofs.Trials.{IsRule}
 use Rattle.rule_index.specs.declared.index.RuleIndex.{RuleIndex}
-use Rattle.rule_index.specs.Applying.{some_applies, applies, some_of_mode}
+use Rattle.rule_index.specs.Applying.{some_applies, applies, in_mode, some_of_mode}
 use Rattle.rule_index.specs.Order.{IsIndexOf}
-use Rattle.rule_index.proofs.Tried.{places, in_mode, all_rules, index_tried}
+use Rattle.rule_index.proofs.Tried.{places, all_rules}
 
 -- ---- items that are left out
 
@@ -62,7 +62,7 @@ module _ (R : Reading) (rules : List Rule) (mode n : ℕ) where
 
   pub choice_is : (index : RuleIndex) → IsIndexOf rules index → choice_of R rules mode n ≡ first_that (applies R rules mode n) index.order
   choice_is index i =
-      first_placed (tried rules mode) (all_rules rules mode) ∙ ap (first_that (applies R rules mode n)) (sym (index_tried rules mode index i))
+      first_placed (tried rules mode) (all_rules rules mode) ∙ ap (first_that (applies R rules mode n)) (sym (i mode))
       ∙ first_kept (applies R rules mode n) (in_mode rules mode) index.order left_out
 
 -- ---- the loop over places

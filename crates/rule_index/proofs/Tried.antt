@@ -2,6 +2,7 @@
 use Rattle.std.proofs.Common.{◌≡◌, refl, sym, ap, ◌∙◌, ℕ, suc, ◌+◌, List, [], ◌∷◌, length, map, filter, Bool, true, false, cond, arith, inl, inr}
 use Rattle.std.specs.Prelude.{slice_get, ◌==◌}
 use Rattle.std.specs.List.{range_with_len}
+use Rattle.std.specs.List.Sorted.{IsPermutation, IsSorted}
 use Rattle.std.specs.Cmp.{IsTotalOrder, on_total, back_total}
 use Rattle.std.specs.Ordering.{is_lt, int_cmp, nat_cmp, ordering_then}
 use Rattle.std.specs.declared.cmp.Ordering.{Ordering}
@@ -16,9 +17,8 @@ use Rattle.rule_choice.specs.Sorting.{placed, sorted_by}
 use Rattle.engine_laws.proofs.Insertion.{NoneBefore, Ascends, each_sorted, sorted_ascends}
 use Rattle.engine_laws.proofs.Places.{one_for, times, more_times, times_sorted, one_ascending, ascending}
 use Rattle.engine_laws.proofs.Trials.{then_total, IsRule, all_candidates, each_tried}
-use Rattle.rule_index.specs.declared.index.RuleIndex.{RuleIndex}
-use Rattle.rule_index.specs.Applying.{some_of_mode}
-use Rattle.rule_index.specs.Order.{precedence_of, priority_of, priority_at_cmp, trial_at, IsIndexOf}
+use Rattle.rule_index.specs.Applying.{in_mode, some_of_mode}
+use Rattle.rule_index.specs.Order.{precedence_of, priority_of, priority_at_cmp, trial_at}
 
 -- ---- the order of places
 
@@ -74,23 +74,20 @@ module _ (rules : List Rule) (mode : ℕ) where
 
   -- ---- the rules of a mode
 
-  abbrev pub in_mode : ℕ → Bool
-  in_mode k = some_of_mode mode (slice_get rules k)
-
   -- rules from a place on
   mode_places : (at : ℕ) (left : List Rule) → ((k : ℕ) → slice_get rules (at + k) ≡ slice_get left k)
-      → places (filter (is_of_mode mode) (candidates_from at left)) ≡ filter in_mode (range_with_len at (length left))
+      → places (filter (is_of_mode mode) (candidates_from at left)) ≡ filter (in_mode rules mode) (range_with_len at (length left))
   mode_places at [] h = refl
   mode_places at (rule ∷ left) h =
       let next : suc at ≡ at + 1 = omega arith in
       let rest = mode_places (suc at) left (λ k. ap (slice_get rules) (let e : suc at + k ≡ at + suc k = omega arith in e) ∙ h (suc k)) in
-      let here : in_mode at ≡ (rule.mode == mode) = ap (some_of_mode mode) (ap (slice_get rules) (let e : at ≡ at + 0 = omega arith in e) ∙ h 0) in
-      by_test (rule.mode == mode) rest ∙ ap (λ b. cond b (at ∷ filter in_mode (range_with_len (suc at) (length left))) (filter in_mode (range_with_len (suc at) (length left)))) (sym here)
-      ∙ ap (λ k. filter in_mode (at ∷ range_with_len k (length left))) next
+      let here : in_mode rules mode at ≡ (rule.mode == mode) = ap (some_of_mode mode) (ap (slice_get rules) (let e : at ≡ at + 0 = omega arith in e) ∙ h 0) in
+      by_test (rule.mode == mode) rest ∙ ap (λ b. cond b (at ∷ filter (in_mode rules mode) (range_with_len (suc at) (length left))) (filter (in_mode rules mode) (range_with_len (suc at) (length left)))) (sym here)
+      ∙ ap (λ k. filter (in_mode rules mode) (at ∷ range_with_len k (length left))) next
     where
-      by_test : (b : Bool) → places (filter (is_of_mode mode) (candidates_from (suc at) left)) ≡ filter in_mode (range_with_len (suc at) (length left))
+      by_test : (b : Bool) → places (filter (is_of_mode mode) (candidates_from (suc at) left)) ≡ filter (in_mode rules mode) (range_with_len (suc at) (length left))
           → places (cond b (record { place = at; rule = rule } ∷ filter (is_of_mode mode) (candidates_from (suc at) left)) (filter (is_of_mode mode) (candidates_from (suc at) left)))
-          ≡ cond b (at ∷ filter in_mode (range_with_len (suc at) (length left))) (filter in_mode (range_with_len (suc at) (length left)))
+          ≡ cond b (at ∷ filter (in_mode rules mode) (range_with_len (suc at) (length left))) (filter (in_mode rules mode) (range_with_len (suc at) (length left)))
       by_test true r = ap (λ ks. at ∷ ks) r
       by_test false r = r
 
@@ -100,7 +97,7 @@ module _ (rules : List Rule) (mode : ℕ) where
   candidates_are_rules : AreRules (filter (is_of_mode mode) (candidates_from 0 rules))
   candidates_are_rules = all_candidates (IsRule rules mode) mode 0 rules (λ k rule e m. record { there = ap (slice_get rules) (let z : 0 + k ≡ k = omega arith in z) ∙ e; of_mode = m })
 
-  tried_places : places (tried rules mode) ≡ sorted_by (trial_at rules) (filter in_mode (range_with_len 0 (length rules)))
+  tried_places : places (tried rules mode) ≡ sorted_by (trial_at rules) (filter (in_mode rules mode) (range_with_len 0 (length rules)))
   unfolding tried
   tried_places =
       places_sorted (filter (is_of_mode mode) (candidates_from 0 rules)) candidates_are_rules
@@ -165,16 +162,16 @@ module _ (rules : List Rule) (mode : ℕ) where
           by_test true r = unseen (filter keep xs) ∙ r ∙ ap (left_if keep z) (sym (unseen xs))
           by_test false r = r ∙ ap (left_if keep z) (sym (unseen xs))
 
-  -- the index has the rules of a mode in the order in which they are tried
-  pub index_tried : (index : RuleIndex) → IsIndexOf rules index → filter in_mode index.order ≡ places (tried rules mode)
-  index_tried index i =
+  -- all places in the order in which the rules are tried have the rules of a mode in that order
+  pub index_tried : (order : List ℕ) → IsPermutation (range_with_len 0 (length rules)) order → IsSorted (trial_at rules) order → filter (in_mode rules mode) order ≡ places (tried rules mode)
+  index_tried order each sorted =
       let cmp : ℕ → ℕ → Ordering = trial_at rules in
       let total = trial_total rules in
       let apart = trial_apart rules in
       let all = range_with_len 0 (length rules) in
-      one_ascending cmp total apart (filter in_mode index.order) (sorted_by cmp (filter in_mode all))
-      (filter_ascends cmp in_mode index.order (ascending cmp total apart index.order i.sorted))
-      (sorted_ascends cmp total (filter in_mode all))
-      (λ z. times_filter in_mode z index.order ∙ ap (left_if in_mode z) (sum_by-IsPermutation (one_for z) all index.order i.each) ∙ sym (times_filter in_mode z all)
-      ∙ sym (times_sorted cmp z (filter in_mode all)))
+      one_ascending cmp total apart (filter (in_mode rules mode) order) (sorted_by cmp (filter (in_mode rules mode) all))
+      (filter_ascends cmp (in_mode rules mode) order (ascending cmp total apart order sorted))
+      (sorted_ascends cmp total (filter (in_mode rules mode) all))
+      (λ z. times_filter (in_mode rules mode) z order ∙ ap (left_if (in_mode rules mode) z) (sum_by-IsPermutation (one_for z) all order each) ∙ sym (times_filter (in_mode rules mode) z all)
+      ∙ sym (times_sorted cmp z (filter (in_mode rules mode) all)))
       ∙ sym tried_places

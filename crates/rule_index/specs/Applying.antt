@@ -24,6 +24,9 @@ abbrev pub some_of_mode : ℕ → Option Rule → Bool
 some_of_mode mode None = false
 some_of_mode mode (Some rule) = rule.mode == mode
 
+abbrev pub in_mode : List Rule → ℕ → ℕ → Bool
+in_mode rules mode place = some_of_mode mode (slice_get rules place)
+
 -- the local name that a step asks for, where there is one
 abbrev pub wanted_if : Option PatternStep → Option (List ℕ)
 wanted_if None = None

@@ -1,10 +1,10 @@
 -- The places of rules in the order in which the rules are tried.
-use Rattle.std.specs.Prelude.{ℕ, ℤ, pos, List, length, Option, Some, None, slice_get}
-use Rattle.std.specs.List.{range_with_len}
-use Rattle.std.specs.List.Sorted.{IsPermutation, IsSorted}
+use Rattle.std.specs.Prelude.{◌≡◌, ℕ, ℤ, pos, List, filter, map, Option, Some, None, slice_get}
 use Rattle.std.specs.Ordering.{int_cmp, nat_cmp, ordering_then}
 use Rattle.std.specs.declared.cmp.Ordering.{Ordering}
 use Rattle.sheet_ast.specs.declared.sheet.Rule.{Rule}
+use Rattle.rule_choice.specs.Choice.{Candidate, tried}
+use Rattle.rule_index.specs.Applying.{in_mode}
 use Rattle.rule_index.specs.declared.index.RuleIndex.{RuleIndex}
 
 abbrev pub precedence_of : Option Rule → ℕ
@@ -23,7 +23,6 @@ priority_at_cmp rules a b = ordering_then (int_cmp (priority_of (slice_get rules
 abbrev pub trial_at : List Rule → ℕ → ℕ → Ordering
 trial_at rules a b = ordering_then (nat_cmp (precedence_of (slice_get rules b)) (precedence_of (slice_get rules a))) (priority_at_cmp rules a b)
 
--- it has the place of each rule, in the order in which the rules are tried
-pub record IsIndexOf (rules : List Rule) (index : RuleIndex) : Type 0 where
-  pub each : IsPermutation (range_with_len 0 (length rules)) index.order
-  pub sorted : IsSorted (trial_at rules) index.order
+-- of each mode it has the places of the rules, in the order in which they are tried
+abbrev pub IsIndexOf : List Rule → RuleIndex → Type 0
+IsIndexOf rules index = (mode : ℕ) → filter (in_mode rules mode) index.order ≡ map (λ (c : Candidate). c.place) (tried rules mode)

@@ -1,7 +1,8 @@
-//! Makes an input of a kind and a size, hands it to one call over texts or results, and prints the size of the
+//! Makes an input of a kind and a size, hands it to one call over texts, results or nodes, and prints the size of the
 //! answer, so that `bench/values.sh` can time the calls: `value_costs KIND SIZE`.
 #![tactic(auto)]
 
+mod copies;
 mod results;
 mod texts;
 
@@ -23,6 +24,7 @@ fn main(rt: HostRuntime) -> io::Result<()> {
 // The size of what the call of a kind answers, in bytes or items; 0 for a kind that is none.
 fn answer_size(alloc: Global, kind: &str, size: u32) -> Result<usize, AllocError> {
     match kind {
+        "copies" => copies::copies(alloc, size),
         "attributes" => results::attributes(alloc, size),
         "clashes" => results::clashes(alloc, size),
         "children" => results::children(alloc, size),

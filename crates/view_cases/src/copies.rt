@@ -3,7 +3,7 @@ ghost use Rattle.std.specs.Prelude.{◌≡◌, true};
 ghost use Rattle.doc_model.specs.Lawful.{IsJoined};
 ghost use Rattle.doc_model.specs.Strip.{all_spelled};
 
-use crate::building::{begun, whole};
+use case_tables::{begun, whole};
 use crate::tests::first_below;
 use crate::values::{Stripped, rules};
 use doc_model::{Ask, StripRules};

@@ -1,5 +1,5 @@
 // Names and their type numbers.
-use crate::building::whole;
+use case_tables::whole;
 use crate::tests::row_count;
 use doc_model::{Kind, NodeView};
 use lists::List;

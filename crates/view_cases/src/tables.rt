@@ -1,7 +1,7 @@
 // The rows, links, names and values of tables that are built from lines.
 ghost use Rattle.doc_model.specs.Lawful.{IsJoined};
 
-use crate::building::{begun, whole};
+use case_tables::{begun, whole};
 use crate::tests::{first_below, row_count};
 use doc_model::{Kind, Look, NameText, NodeView, Verdict};
 use lists::List;

@@ -3,9 +3,9 @@ ghost use Rattle.axis_walkers.specs.Streams.{IsStream};
 ghost use Rattle.doc_model.specs.Lawful.{IsJoined};
 ghost use Rattle.doc_model.specs.Rows.{rows_of};
 ghost use Rattle.plain_columns.specs.Seen.{seen_of};
-ghost use Rattle.view_cases.specs.Building.{StandsAfter};
+ghost use Rattle.case_tables.specs.Building.{StandsAfter};
 
-use crate::building::{begin, begun, feed, whole};
+use case_tables::{begin, begun, feed, whole};
 use crate::counting::Counting;
 use axis_walkers::{Ask, Axis, ChildStream, Test, streams_stay, walk};
 use doc_model::{Kind, Look, NodeView, Row, axis_by_filter};

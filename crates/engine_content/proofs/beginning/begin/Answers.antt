@@ -12,11 +12,11 @@ use Rattle.engine_content.proofs.Rows.{row_later}
 use Rattle.engine_content.proofs.Pushing.{text_pushed, beginning_is}
 use Rattle.engine_content.proofs.beginning.begin.Goals as goal
 
-pub text_of-requires : goal.text_of-requires
-text_of-requires g c = joined_grows _ _ c.args.k c.name_of-in-Attribute.ensures.moves.grows c.requires.joined
+pub own_value-requires : goal.own_value-requires
+own_value-requires g c = joined_grows _ _ c.args.k c.name_of-in-Attribute.ensures.moves.grows c.requires.joined
 
-pub text_of-requires-in-Instruction : goal.text_of-requires-in-Instruction
-text_of-requires-in-Instruction g c = joined_grows _ _ c.args.k c.name_of-in-Instruction.ensures.moves.grows c.requires.joined
+pub own_value-requires-in-Instruction : goal.own_value-requires-in-Instruction
+own_value-requires-in-Instruction g c = joined_grows _ _ c.args.k c.name_of-in-Instruction.ensures.moves.grows c.requires.joined
 
 pub returns-in-Root-clause-value : goal.returns-in-Root-clause-value
 returns-in-Root-clause-value g c =
@@ -34,10 +34,10 @@ pub returns-in_ok-value-in-Attribute-clause-value : goal.returns-in_ok-value-in-
 returns-in_ok-value-in-Attribute-clause-value g c =
     let old = (g.V.NodeView.sees c.args.view.now).steps in
     let mid = (g.V.NodeView.sees c.name_of-in-Attribute.new.view).steps in
-    let new = (g.V.NodeView.sees c.text_of.new.view).steps in
-    let m = moves_on _ _ _ c.name_of-in-Attribute.ensures.moves c.text_of.ensures.moves in
+    let new = (g.V.NodeView.sees c.own_value.new.view).steps in
+    let m = moves_on _ _ _ c.name_of-in-Attribute.ensures.moves c.own_value.ensures.moves in
     let is = beginning_is old new c.args.k c.args.kind kind.Attribute m.grows c.requires.joined c.requires.kind c.in-Attribute.is in
-    let row = row_later mid new c.args.k c.text_of.ensures.moves.grows (joined_grows _ _ c.args.k c.name_of-in-Attribute.ensures.moves.grows c.requires.joined) in
+    let row = row_later mid new c.args.k c.own_value.ensures.moves.grows (joined_grows _ _ c.args.k c.name_of-in-Attribute.ensures.moves.grows c.requires.joined) in
     let name = c.in_ok-name-in-Attribute.ensures.value ∙ sym (ap result_name row) in
     on_ok_weaker c.push-in-Attribute.result
     (λ e. e ∙ ap (λ n. c.args.made.now ++ event.Attr n c.in_ok-value-in-Attribute.value ∷ []) name
@@ -47,7 +47,7 @@ returns-in_ok-value-in-Attribute-clause-value g c =
 pub returns-in_ok-text-in-Text-clause-value : goal.returns-in_ok-text-in-Text-clause-value
 returns-in_ok-text-in-Text-clause-value g c =
     let is = beginning_is (g.V.NodeView.sees c.args.view.now).steps
-    (g.V.NodeView.sees c.text_of-in-Text.new.view).steps c.args.k c.args.kind kind.Text c.text_of-in-Text.ensures.moves.grows c.requires.joined c.requires.kind c.in-Text.is in
+    (g.V.NodeView.sees c.own_value-in-Text.new.view).steps c.args.k c.args.kind kind.Text c.own_value-in-Text.ensures.moves.grows c.requires.joined c.requires.kind c.in-Text.is in
     on_ok_weaker c.push-in-Text.result
     (λ e. e ∙ text_pushed c.args.made.now c.in_ok-text-in-Text.text ∙ ap (λ v. c.args.made.now ++ text_events v) c.in_ok-text-in-Text.ensures.value
     ∙ ap (λ xs. c.args.made.now ++ xs) (sym is)) c.push-in-Text.ensures.ok
@@ -56,10 +56,10 @@ pub returns-in_ok-value-in-Instruction-clause-value : goal.returns-in_ok-value-i
 returns-in_ok-value-in-Instruction-clause-value g c =
     let old = (g.V.NodeView.sees c.args.view.now).steps in
     let mid = (g.V.NodeView.sees c.name_of-in-Instruction.new.view).steps in
-    let new = (g.V.NodeView.sees c.text_of-in-Instruction.new.view).steps in
-    let m = moves_on _ _ _ c.name_of-in-Instruction.ensures.moves c.text_of-in-Instruction.ensures.moves in
+    let new = (g.V.NodeView.sees c.own_value-in-Instruction.new.view).steps in
+    let m = moves_on _ _ _ c.name_of-in-Instruction.ensures.moves c.own_value-in-Instruction.ensures.moves in
     let is = beginning_is old new c.args.k c.args.kind kind.Instruction m.grows c.requires.joined c.requires.kind c.in-Instruction.is in
-    let row = row_later mid new c.args.k c.text_of-in-Instruction.ensures.moves.grows (joined_grows _ _ c.args.k c.name_of-in-Instruction.ensures.moves.grows c.requires.joined) in
+    let row = row_later mid new c.args.k c.own_value-in-Instruction.ensures.moves.grows (joined_grows _ _ c.args.k c.name_of-in-Instruction.ensures.moves.grows c.requires.joined) in
     let target = ap (λ (n : Name). n.local) c.in_ok-target-in-Instruction.ensures.value ∙ sym (ap (λ (r : Row). r.local) row) in
     on_ok_weaker c.push-in-Instruction.result
     (λ e. e ∙ ap (λ t. c.args.made.now ++ event.Instruction t c.in_ok-value-in-Instruction.value ∷ []) target
@@ -69,6 +69,6 @@ returns-in_ok-value-in-Instruction-clause-value g c =
 pub returns-in_ok-text-in-Comment-clause-value : goal.returns-in_ok-text-in-Comment-clause-value
 returns-in_ok-text-in-Comment-clause-value g c =
     let is = beginning_is (g.V.NodeView.sees c.args.view.now).steps
-    (g.V.NodeView.sees c.text_of-in-Comment.new.view).steps c.args.k c.args.kind kind.Comment c.text_of-in-Comment.ensures.moves.grows c.requires.joined c.requires.kind c.in-Comment.is in
+    (g.V.NodeView.sees c.own_value-in-Comment.new.view).steps c.args.k c.args.kind kind.Comment c.own_value-in-Comment.ensures.moves.grows c.requires.joined c.requires.kind c.in-Comment.is in
     on_ok_weaker c.push-in-Comment.result
     (λ e. e ∙ ap (λ v. c.args.made.now ++ event.Comment v ∷ []) c.in_ok-text-in-Comment.ensures.value ∙ ap (λ xs. c.args.made.now ++ xs) (sym is)) c.push-in-Comment.ensures.ok

@@ -1,0 +1,8 @@
+use Rattle.std.proofs.Common.{◌≡◌, drop}
+use Rattle.sheet_making.specs.Attributes.{template_in}
+use Rattle.sheet_names.specs.Values.{first_value}
+use Rattle.sheet_making.proofs.attributes.first_template.Given as goal
+
+-- none of those before has it
+abbrev pub invariant-loop-one : goal.invariant-loop-one
+invariant-loop-one l = first_value template_in l.word l.given ≡ first_value template_in l.word (drop l.one-index l.given)

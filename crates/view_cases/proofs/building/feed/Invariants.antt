@@ -1,9 +1,0 @@
-use Rattle.doc_model.specs.Lawful.{Grows}
-use Rattle.view_cases.specs.Building.{StandsAfter}
-use Rattle.view_cases.proofs.building.feed.Given as goal
-
-abbrev pub invariant-loop-bytes : goal.invariant-loop-bytes
-invariant-loop-bytes l = record {
-  taken : StandsAfter l.builder l.table l.count;
-  grows : Grows l.fn.table.cells.steps l.table.cells.steps;
-}

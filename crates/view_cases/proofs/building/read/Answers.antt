@@ -1,5 +1,0 @@
-use Rattle.std.proofs.Common.{sym, inl, inr}
-use Rattle.view_cases.proofs.building.read.Goals as goal
-
-pub returns-in-Ok : goal.returns-in-Ok
-returns-in-Ok c = c.what_is_read_is_readable.ensures c.args.text.now c.in-Ok.line (elim c.in-Ok.ensures.answer [ inl e ↦ sym e | inr e ↦ absurd (cc) ])
