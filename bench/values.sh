@@ -40,5 +40,13 @@ attributes 100000 2.2
 clashes 50000 2.2
 children 50000 2.2
 copies 50000 2.2
+descendants 100000 2.2
+chosen 100000 2.2
+united 100000 2.2
+stepped 100000 2.2
+following 100000 2.2
+siblings 100000 2.2
+placed 100000 2.2
+compared 100000 2.2
 KINDS
 exit "$dear"

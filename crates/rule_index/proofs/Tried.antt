@@ -82,7 +82,8 @@ module _ (rules : List Rule) (mode : ℕ) where
       let next : suc at ≡ at + 1 = omega arith in
       let rest = mode_places (suc at) left (λ k. ap (slice_get rules) (let e : suc at + k ≡ at + suc k = omega arith in e) ∙ h (suc k)) in
       let here : in_mode rules mode at ≡ (rule.mode == mode) = ap (some_of_mode mode) (ap (slice_get rules) (let e : at ≡ at + 0 = omega arith in e) ∙ h 0) in
-      by_test (rule.mode == mode) rest ∙ ap (λ b. cond b (at ∷ filter (in_mode rules mode) (range_with_len (suc at) (length left))) (filter (in_mode rules mode) (range_with_len (suc at) (length left)))) (sym here)
+      by_test (rule.mode == mode) rest
+      ∙ ap (λ b. cond b (at ∷ filter (in_mode rules mode) (range_with_len (suc at) (length left))) (filter (in_mode rules mode) (range_with_len (suc at) (length left)))) (sym here)
       ∙ ap (λ k. filter (in_mode rules mode) (at ∷ range_with_len k (length left))) next
     where
       by_test : (b : Bool) → places (filter (is_of_mode mode) (candidates_from (suc at) left)) ≡ filter (in_mode rules mode) (range_with_len (suc at) (length left))

@@ -1,7 +1,9 @@
-//! Tests of stylesheets: their elements, the values of attributes, and the first faults of the first and of the second
-//! pass.
+//! Tests of stylesheets: their elements, the values of attributes, the first faults of each pass and over all passes, and
+//! the rules that they have.
 #![tactic(auto)]
 
+#[cfg(test)]
+mod compiled;
 #[cfg(test)]
 mod names;
 #[cfg(test)]

@@ -36,7 +36,7 @@ fn copy_size(alloc: Global, table: &Plain) -> Result<usize, AllocError> {
 }
 
 // A list of so many items, each with an attribute, a text and an element without content.
-fn document(alloc: Global, size: u32) -> Result<Plain, Memory> {
+pub fn document(alloc: Global, size: u32) -> Result<Plain, Memory> {
     let mut lines = Vec::new(alloc);
     lines.extend_from_slice(b"(list\n").map_err(|_| Memory)?;
     for _ in 0..size {

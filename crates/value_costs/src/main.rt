@@ -1,8 +1,9 @@
-//! Makes an input of a kind and a size, hands it to one call over texts, results or nodes, and prints the size of the
-//! answer, so that `bench/values.sh` can time the calls: `value_costs KIND SIZE`.
+//! Makes an input of a kind and a size, hands it to one call over texts, results or nodes, or evaluates an expression over
+//! it, and prints the size of the answer, so that `bench/values.sh` can time the calls: `value_costs KIND SIZE`.
 #![tactic(auto)]
 
 mod copies;
+mod expressions;
 mod results;
 mod texts;
 
@@ -23,6 +24,9 @@ fn main(rt: HostRuntime) -> io::Result<()> {
 
 // The size of what the call of a kind answers, in bytes or items; 0 for a kind that is none.
 fn answer_size(alloc: Global, kind: &str, size: u32) -> Result<usize, AllocError> {
+    if let Some(source) = expressions::source_of(kind) {
+        return expressions::evaluated(alloc, source, size);
+    }
     match kind {
         "copies" => copies::copies(alloc, size),
         "attributes" => results::attributes(alloc, size),

@@ -3,9 +3,9 @@ ghost use Rattle.std.specs.Prelude.{◌≡◌, true};
 ghost use Rattle.doc_model.specs.Lawful.{IsJoined};
 ghost use Rattle.doc_model.specs.Strip.{all_spelled};
 
-use case_tables::{begun, whole};
 use crate::tests::first_below;
 use crate::values::{Stripped, rules};
+use case_tables::{begun, whole};
 use doc_model::{Ask, StripRules};
 use engine_content::copy_node;
 use lists::List;

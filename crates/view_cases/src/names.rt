@@ -1,6 +1,6 @@
 // Names and their type numbers.
-use case_tables::whole;
 use crate::tests::row_count;
+use case_tables::whole;
 use doc_model::{Kind, NodeView};
 use lists::List;
 use name_pool::TypeIndex;

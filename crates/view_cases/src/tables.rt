@@ -1,8 +1,8 @@
 // The rows, links, names and values of tables that are built from lines.
 ghost use Rattle.doc_model.specs.Lawful.{IsJoined};
 
-use case_tables::{begun, whole};
 use crate::tests::{first_below, row_count};
+use case_tables::{begun, whole};
 use doc_model::{Kind, Look, NameText, NodeView, Verdict};
 use lists::List;
 use plain_columns::Plain;

@@ -5,9 +5,9 @@ ghost use Rattle.doc_model.specs.Rows.{rows_of};
 ghost use Rattle.plain_columns.specs.Seen.{seen_of};
 ghost use Rattle.case_tables.specs.Building.{StandsAfter};
 
-use case_tables::{begin, begun, feed, whole};
 use crate::counting::Counting;
 use axis_walkers::{Ask, Axis, ChildStream, Test, streams_stay, walk};
+use case_tables::{begin, begun, feed, whole};
 use doc_model::{Kind, Look, NodeView, Row, axis_by_filter};
 use dtm_builder::Builder;
 use lists::List;

@@ -3,8 +3,8 @@ ghost use Rattle.std.specs.Prelude.{◌≡◌, true, IfOk};
 ghost use Rattle.doc_model.specs.Lawful.{IsJoined};
 ghost use Rattle.doc_model.specs.Strip.{all_spelled};
 
-use case_tables::{begin, feed, whole};
 use crate::tests::{first_below, row_count};
+use case_tables::{begin, feed, whole};
 use doc_model::{Kind, NodeView, Row, value_by_filter};
 use lists::List;
 use plain_columns::Plain;

@@ -13,5 +13,5 @@ returns c =
     let sheet_rules = c.args.sheet.now.rules in
     let each : IsPermutation (range_with_len 0 (length sheet_rules)) c.from_vec.result = search rules in
     let sorted = subst (IsSorted (trial_at sheet_rules)) (sym c.from_vec.ensures)
-            (c.sort_unstable_by.ensures.sorted (λ a b. is_lt (trial_at sheet_rules a b)) (ranks_by (trial_total sheet_rules) (λ place. place)) (always_returns_same _ _ _ (λ a r f h. search rules))) in
+    (c.sort_unstable_by.ensures.sorted (λ a b. is_lt (trial_at sheet_rules a b)) (ranks_by (trial_total sheet_rules) (λ place. place)) (always_returns_same _ _ _ (λ a r f h. search rules))) in
     λ mode. index_tried sheet_rules mode c.from_vec.result each sorted
