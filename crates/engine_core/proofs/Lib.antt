@@ -1,0 +1,5 @@
+pub mod Growing
+pub mod Asking
+pub mod Moves
+pub mod Keeping
+pub mod Topping

@@ -1,0 +1,4 @@
+pub mod Weight
+pub mod Standing
+pub mod Holding
+pub mod Moving

@@ -1,0 +1,10 @@
+mod Known
+mod Members
+mod Paths
+mod Rowwise
+mod Depths
+mod Leading
+mod Telling
+mod Calling
+mod Starting
+mod Alternatives

@@ -1,0 +1,4 @@
+mod Steps
+mod Tests
+mod Elements
+mod Stripping
