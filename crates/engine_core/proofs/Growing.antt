@@ -72,7 +72,7 @@ module _ {S : Type 0} (z : Scene S) (on : (stream : S) → GoesOnSo (z.follows s
   frame_later : {below behind : Stand → List S → Type 0} → ((h : Stand) (streams : List S) → below h streams → behind h streams)
       → (deep : ℕ) (frame : Frame) (h : Stand) (streams : List S) → FrameHolds z before deep below frame h streams → FrameHolds z later deep behind frame h streams
   frame_later next deep (f.Template locals context) h streams k = (values_later stays locals k.0, context_later stays context k.1, next _ streams k.2)
-  frame_later next deep (f.Body rest begun kept) h streams k = next _ streams k
+  frame_later next deep (f.Body rest begun kept) h streams k = (k.0, next _ streams k.1)
   frame_later next deep f.Close h streams k = next h streams k
   frame_later next deep (f.Literal attributes body) h streams k = next h streams k
   frame_later next deep (f.Whens whens otherwise) h streams k = next h streams k

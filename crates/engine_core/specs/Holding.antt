@@ -80,7 +80,7 @@ PurposeHolds is deep below h streams (purpose.Message terminate) = below h strea
 -- what a frame holds, where so many templates are open below, and what is below holds so from a place and the streams that are left, the innermost first
 abbrev pub FrameHolds : {S : Type 0} → Scene S → List Step → ℕ → (Stand → List S → Type 0) → Frame → Stand → List S → Type 0
 FrameHolds z steps deep below (f.Template locals context) h streams = AllValues (there z steps) locals × IsContext (there z steps) context × below (at_place h context locals) streams
-FrameHolds z steps deep below (f.Body rest begun kept) h streams = below (at_place h h.place.context (take kept h.place.locals)) streams
+FrameHolds z steps deep below (f.Body rest begun kept) h streams = (kept ≤ length h.place.locals) × below (at_place h h.place.context (take kept h.place.locals)) streams
 FrameHolds z steps deep below f.Close h streams = below h streams
 FrameHolds z steps deep below (f.Literal attributes body) h streams = below h streams
 FrameHolds z steps deep below (f.Whens whens otherwise) h streams = below h streams

@@ -1,0 +1,16 @@
+mod Returning
+mod Names
+mod Declaring
+mod BuiltIn
+mod Spending
+mod Listed
+mod Moving
+mod Copying
+mod Receiving
+mod Streaming
+mod Finding
+mod Giving
+mod Handing
+mod Ordering
+mod Keying
+mod Choosing

@@ -1,0 +1,9 @@
+mod Hanging
+mod Sounds
+mod Computing
+mod Copying
+mod Counting
+mod Shallows
+mod Choosing
+mod Selecting
+mod Layering

@@ -1,0 +1,5 @@
+mod Continuing
+mod Stepping
+mod Running
+mod Turning
+mod Starting
